@@ -1,0 +1,4 @@
+pub mod Bools
+pub mod Part
+pub mod Integer
+pub mod Cases

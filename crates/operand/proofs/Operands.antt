@@ -1,0 +1,81 @@
+-- What holds of every operand form: where it reads, and where the bytes run out.
+-- Below: the definitions. Above: the machine's counter, and faults of a fetch. Assumes nothing.
+use Prim.Native.Nat.{ℕ, suc, _+_, _-_, _%_, _≤_, _<_}
+use native.Mathlib.Omega.{arith}
+use mathlib.Core.Path.{_≡_, refl}
+use mathlib.Core.List.{List}
+use mathlib.Core.Bool.{Bool, true, false, cond}
+use borrow.Author.Tests.{ltb-true, ltb-false, lt-ltb}
+use lib.ListN.{length}
+use lib.Dec.{ltb}
+use lib.IntN.{pos, subℕ}
+use Rattle.basis.specs.Integer.{modulo, integerOf, wordOf}
+use Rattle.operand.specs.Bytes.{byteAt, join}
+use Rattle.operand.specs.Operand.{Form, UB, SB, DB, B, W, Fetched, got, out, given, signed, fetched}
+use Rattle.operand.specs.Reading.{Lies, Reads}
+
+module _ (s : List ℕ) (at : ℕ) where
+  -- what `given` reads, if what follows the test reads so
+  first : (o : Fetched) → (at < length s → Lies s at o) → Lies s at (given s at o)
+  unfolding given
+  first o h = go (ltb at (length s)) refl
+    where
+      go : (b : Bool) → ltb at (length s) ≡ b → Lies s at (cond b o (out at))
+      go true e = h (ltb-true at (length s) e)
+      go false e =
+          let r = ltb-false at (length s) e in
+          (omega arith, omega arith, r, λ (i : at ≤ length s). omega arith)
+
+  -- the second of two bytes, behind a test of its own
+  second : (v : ℕ) → at < length s → Lies s at (given s (at + 1) (got v (at + 2)))
+  unfolding given
+  second v l = go (ltb (at + 1) (length s)) refl
+    where
+      go : (b : Bool) → ltb (at + 1) (length s) ≡ b → Lies s at (cond b (got v (at + 2)) (out (at + 1)))
+      go true e =
+          let r = ltb-true (at + 1) (length s) e in
+          (omega arith, omega arith, omega arith)
+      go false e =
+          let r = ltb-false (at + 1) (length s) e in
+          (omega arith, omega arith, r, λ (i : at ≤ length s). omega arith)
+
+  -- one byte, or two
+  some : (b : Bool) (v u : ℕ) → at < length s → Lies s at (cond b (got v (at + 1)) (given s (at + 1) (got u (at + 2))))
+  some true v u l = (omega arith, omega arith, omega arith)
+  some false v u l = second u l
+
+  one : (v : ℕ) → Lies s at (given s at (got v (at + 1)))
+  one v = first (got v (at + 1)) (λ (l : at < length s). (omega arith, omega arith, omega arith))
+
+pub reads : Reads
+unfolding fetched
+reads UB s at = one s at (byteAt s at)
+reads SB s at = one s at (signed (byteAt s at))
+reads DB s at = one s at (byteAt s at)
+reads B s at = first s at _ (some s at (ltb (byteAt s at) 128) (byteAt s at) (join (byteAt s (at + 1)) (byteAt s at - 128)))
+reads W s at = first s at _ (second s at (join (byteAt s at) (byteAt s (at + 1))))
+
+-- the same, of an answer in hand
+module _ (f : Form) (s : List ℕ) (at : ℕ) where
+  pub got-lies : (v n : ℕ) → fetched f s at ≡ got v n → (at < n) × (n ≤ at + 2) × (n ≤ length s)
+  got-lies v n h = rw h at (reads f s at)
+
+  pub out-lies : (p : ℕ) → fetched f s at ≡ out p → at ≤ length s → p ≡ length s
+  out-lies p h l = (rw h at (reads f s at)) .3 l
+
+-- ---- a signed byte
+
+-- SB gives the 16-bit word of the byte's integer
+pub signed-is : (b : ℕ) → b < 256 → signed b ≡ wordOf 16 (integerOf 8 b)
+unfolding signed integerOf wordOf modulo
+signed-is b h = go (ltb b 128) refl
+  where
+    go : (t : Bool) → ltb b 128 ≡ t → cond t b (b + 65280) ≡ modulo 65536 (cond t (pos b) (subℕ b 256))
+    go true e =
+        let l = ltb-true b 128 e in
+        let r : b ≡ b % 65536 = omega arith in
+        r
+    go false e =
+        let l = ltb-false b 128 e in
+        let r : b + 65280 ≡ 65536 - suc ((256 - suc b) % 65536) = omega arith in
+        rw (lt-ltb b 256 h) r

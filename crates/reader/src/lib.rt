@@ -1,0 +1,36 @@
+// The reader: a bounded view of one segment with a reading place, so that no caller adds offsets by hand.
+// Below: the operands. Each function takes the struct apart and calls one on a slice and numbers.
+use operand::Operand;
+ghost use mathlib.Core.Path.{_≡_};
+ghost use Rattle.operand.specs.Operand.{fetched, fetchedOf, formAt};
+
+pub struct Reader<'a> {
+    pub src: &'a [u8],
+    pub at: usize,
+}
+
+pub fn new<'a>(src: &'a [u8]) -> Reader<'a>
+    ensures { λ r. ⌜ (r .src ≡ src .entry) × (r .at ≡ 0) ⌝ }
+{
+    Reader { src, at: 0 }
+}
+
+pub fn moved<'a>(r: Reader<'a>, at: usize) -> Reader<'a>
+    ensures { λ q. ⌜ (q .src ≡ r .entry .src) × (q .at ≡ at) ⌝ }
+{
+    Reader { src: r.src, at }
+}
+
+// The operand of the form with the number code, at the reader's place.
+pub fn next<'a>(r: Reader<'a>, code: u8) -> Operand
+    ensures { λ s. ⌜ fetchedOf s ≡ fetched (formAt code) (now (r .entry .src)) (r .entry .at) ⌝ }
+{
+    operand::fetch_coded(r.src, r.at, code)
+}
+
+// The same with plain parameters, so that a caller needs no reader of its own.
+pub fn read_at(seg: &[u8], at: usize, code: u8) -> Operand
+    ensures { λ r. ⌜ fetchedOf r ≡ fetched (formAt code) (now (seg .entry)) at ⌝ }
+{
+    next(moved(new(seg), at), code)
+}

@@ -1,0 +1,158 @@
+-- What an accepted segment tells of its numbers, and the steps of the loop over the routines.
+-- Below: the theorems on verdicts. Above: turning, the machine and the bench. Assumes nothing.
+use Prim.Native.Nat.{ℕ, zero, suc, _+_, _-_, _*_, _%_, _≤_, _<_}
+use native.Mathlib.Omega.{arith}
+use native.Mathlib.Nat.{eq-or-lt-of-le}
+use mathlib.Core.Path.{_≡_, refl, sym, subst, _∙_}
+use mathlib.Core.Logic.{_⊎_, inl, inr, ⊎-elim}
+use mathlib.Core.List.{List}
+use mathlib.Core.Bool.{Bool, true, false, _&&_, and-true}
+use borrow.Author.Tests.{leb-true, ltb-true, eqb-true}
+use lib.ListN.{length}
+use lib.Dec.{leb, ltb, eqb}
+use Rattle.basis.specs.Bools.{inside}
+use Rattle.basis.proofs.Bools.{both-true, inside-true, or-cases}
+use Rattle.operand.specs.Bytes.{wordBy}
+use Rattle.segment.specs.Head.{words, least, word, dict, reloc, pool, count, entry, datasize, exitic, shapeOk, sexOk, relocOk, poolOk, dictOk}
+use Rattle.segment.specs.Judge.{headChecks, routineChecks, routinesFrom, checks, verdict, passes, judged, follow}
+use Rattle.segment.specs.declared.Verdict.the-variants.{Accepted}
+use Rattle.segment.proofs.Verdicts.{verdict-append, pass-all, stops, needed, followed, followed-by}
+
+-- ---- what checks 1 to 5 tell
+
+pub record Header (s : List ℕ) : Type 0 where
+  pub long : 32 ≤ length s
+  pub even : length s ≡ 2 * words s
+  pub few : words s ≤ 32767
+  pub sexed : sexOk s ≡ true
+  pub relocs : reloc s ≡ 0
+  pub pools : (pool s ≡ 0) ⊎ ((11 ≤ pool s) × (pool s < words s))
+  pub low : 11 ≤ dict s
+  pub some : 1 ≤ count s
+  pub many : count s ≤ 255
+  pub room : dict s + count s < words s
+
+pub shaped : (s : List ℕ) → shapeOk s ≡ true → (32 ≤ length s) × (length s ≡ 2 * words s) × (words s ≤ 32767)
+shaped s h =
+    let p = both-true _ _ h in
+    let e = eqb-true (length s % 2) 0 (p .0) in
+    let i = inside-true _ _ _ (p .1) in
+    omega arith
+
+pub pooled : (s : List ℕ) → poolOk s ≡ true → (pool s ≡ 0) ⊎ ((11 ≤ pool s) × (pool s < words s))
+pooled s h = or-cases _ _ h (λ (e : eqb (pool s) 0 ≡ true). inl (eqb-true _ _ e)) (λ (e : inside 11 (words s) (pool s) ≡ true). inr (inside-true _ _ _ e))
+
+pub headed : (s : List ℕ) → shapeOk s ≡ true → sexOk s ≡ true → relocOk s ≡ true → poolOk s ≡ true → dictOk s ≡ true → Header s
+headed s h x r o d =
+    let a = shaped s h in
+    let p = both-true _ _ d in
+    let q = both-true _ _ (p .1) in
+    let i = inside-true _ _ _ (p .0) in
+    let j = inside-true _ _ _ (q .0) in
+    let k : dict s + count s < words s = ltb-true _ _ (q .1) in
+    record {
+      long = a .0;
+      even = a .1;
+      few = a .2;
+      sexed = x;
+      relocs = eqb-true _ _ r;
+      pools = pooled s o;
+      low = i .0;
+      some = j .0;
+      many = omega arith;
+      room = k;
+    }
+
+pub head-good : (s : List ℕ) → verdict (headChecks s) ≡ Accepted → Header s
+unfolding verdict headChecks
+head-good s h =
+    let a = needed _ _ _ _ h in
+    let b = needed _ _ _ _ (a .1) in
+    let d = needed _ _ _ _ (b .1) in
+    let e = needed _ _ _ _ (d .1) in
+    let f = needed _ _ _ _ (e .1) in
+    headed s (a .0) (b .0) (d .0) (e .0) (f .0)
+
+-- ---- the loop over the routines: with k of n judged, one turn
+
+module _ (s : List ℕ) where
+  routines-more : (n k : ℕ) → k < n → verdict (routinesFrom s (n - k) (k + 1)) ≡ follow (verdict (routineChecks s (k + 1))) (verdict (routinesFrom s (n - (k + 1)) (k + 1 + 1)))
+  unfolding routinesFrom
+  routines-more n k l =
+      let e : n - k ≡ suc (n - (k + 1)) = omega arith in
+      rw e (verdict-append (routineChecks s (k + 1)) (routinesFrom s (n - (k + 1)) (k + 1 + 1)))
+
+  pub judge-stop : (n k : ℕ) → k < n → passes (routineChecks s (k + 1)) ≡ false → verdict (routinesFrom s (n - k) (k + 1)) ≡ verdict (routineChecks s (k + 1))
+  judge-stop n k l h = routines-more n k l ∙ stops (routineChecks s (k + 1)) _ h
+
+  pub judge-step : (n k : ℕ) → k < n → passes (routineChecks s (k + 1)) ≡ true → verdict (routinesFrom s (n - k) (k + 1)) ≡ verdict (routinesFrom s (n - (k + 1)) (k + 1 + 1))
+  judge-step n k l h = routines-more n k l ∙ followed-by _ _ (pass-all (routineChecks s (k + 1)) h)
+
+  -- the test of routine k, made of numbers in hand: the sex, W, D and the entry
+  pub passes-by : (b : Bool) (w d k e : ℕ) → b ≡ least s → w ≡ words s → d ≡ dict s → e ≡ wordBy b s (d + k)
+      → passes (routineChecks s k) ≡ ((leb 12 e && ltb (e + 1) w) && (ltb (wordBy b s e) 32768 && inside 22 (2 * w) (wordBy b s (e - 1))))
+  unfolding passes routineChecks entry datasize exitic word
+  passes-by b w d k e hb hw hd he = rw (he, hd, hw, hb) (simp and-true)
+
+  pub judge-done : (n k : ℕ) → n ≤ k → verdict (routinesFrom s (n - k) (k + 1)) ≡ Accepted
+  unfolding verdict routinesFrom
+  judge-done n k l =
+      let e : n - k ≡ 0 = omega arith in
+      rw e refl
+
+-- ---- what checks 6 to 8 tell
+
+pub record GoodRoutine (s : List ℕ) (k : ℕ) : Type 0 where
+  pub low : 12 ≤ entry s k
+  pub high : entry s k + 1 < words s
+  pub size : datasize s k < 32768
+  pub exit-low : 22 ≤ exitic s k
+  pub exit-high : exitic s k < 2 * words s
+
+pub routine-facts : (s : List ℕ) (k : ℕ) → verdict (routineChecks s k) ≡ Accepted → GoodRoutine s k
+unfolding verdict routineChecks
+routine-facts s k h =
+    let a = needed _ _ _ _ h in
+    let b = needed _ _ _ _ (a .1) in
+    let d = needed _ _ _ _ (b .1) in
+    let p = both-true _ _ (a .0) in
+    let i = inside-true _ _ _ (d .0) in
+    record {
+      low = leb-true _ _ (p .0);
+      high = ltb-true _ _ (p .1);
+      size = ltb-true _ _ (b .0);
+      exit-low = i .0;
+      exit-high = i .1;
+    }
+
+pub routine-at : (s : List ℕ) (n j : ℕ) → verdict (routinesFrom s n j) ≡ Accepted → (k : ℕ) → j ≤ k → k < j + n → verdict (routineChecks s k) ≡ Accepted
+unfolding routinesFrom
+routine-at s zero j h k l r =
+    let f : ⊥ = omega arith in
+    absurd f
+routine-at s (suc n) j h k l r =
+    let a = followed _ _ (sym (verdict-append (routineChecks s j) (routinesFrom s n (j + 1))) ∙ h) in
+    ⊎-elim
+    (λ (e : j ≡ k). subst (λ (i : ℕ). verdict (routineChecks s i) ≡ Accepted) e (a .0))
+    (λ (m : j < k). routine-at s n (j + 1) (a .1) k (omega arith) (omega arith))
+    (eq-or-lt-of-le l)
+
+-- ---- an accepted segment
+
+pub record Good (s : List ℕ) : Type 0 where
+  pub header : Header s
+  pub routines : (k : ℕ) → 1 ≤ k → k ≤ count s → GoodRoutine s k
+
+-- checks 1 to 5, and those of the routines
+pub judged-is : (s : List ℕ) → judged s ≡ follow (verdict (headChecks s)) (verdict (routinesFrom s (count s) 1))
+unfolding judged checks
+judged-is s = verdict-append (headChecks s) (routinesFrom s (count s) 1)
+
+pub judged-parts : (s : List ℕ) → judged s ≡ Accepted → (verdict (headChecks s) ≡ Accepted) × (verdict (routinesFrom s (count s) 1) ≡ Accepted)
+judged-parts s h = followed _ _ (sym (judged-is s) ∙ h)
+
+pub all-routines : (s : List ℕ) → judged s ≡ Accepted → (k : ℕ) → 1 ≤ k → k ≤ count s → GoodRoutine s k
+all-routines s h k l m = routine-facts s k (routine-at s (count s) 1 (judged-parts s h .1) k l (omega arith))
+
+pub all-good : (s : List ℕ) → judged s ≡ Accepted → Good s
+all-good s h = record { header = head-good s (judged-parts s h .0); routines = all-routines s h }

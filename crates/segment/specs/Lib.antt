@@ -1,0 +1,4 @@
+pub mod Head
+pub mod Judge
+pub mod Judging
+pub mod Small

@@ -1,0 +1,5 @@
+pub mod Swaps
+pub mod Positions
+pub mod Twice
+pub mod Outputs
+pub mod Cases

@@ -1,0 +1,52 @@
+-- `turning::copy` meets its contract. Assumes nothing.
+use mathlib.Core.Path.{_≡_, refl, _∙_}
+use Prim.Native.Nat.{_-_, _≤_}
+use borrow.Author.Needs.{needs}
+use native.Mathlib.Omega.{arith}
+use lib.ListN.{length, length-set}
+use lib.Seq.{paste}
+use denote.Ref.{now}
+use Rattle.turning.proofs.Swaps.{copy-more, copy-all}
+use Rattle.turning.proofs.copy.Statement.{statement}
+use Rattle.turning.proofs.copy.Tie as tie
+
+abbrev Inv-loop : tie.InvT-loop
+Inv-loop seg out₀ i₀ out i = (i ≤ length seg) × (length out ≡ length out₀) × (out ≡ paste out₀ 0 seg i)
+
+abbrev μ-loop : tie.MeasureT-loop
+μ-loop seg out₀ i₀ out i = length seg - i
+
+loop-holds : tie.Need-loop-holds Inv-loop μ-loop
+loop-holds c = (omega arith, refl, refl)
+
+slice-write-out : tie.Need-slice-write-out Inv-loop μ-loop
+slice-write-out c = omega arith
+
+loop-again : tie.Need-loop-again Inv-loop μ-loop
+loop-again c =
+    let a = c .before .before .before .args in
+    let l = c .before .before .loop in
+    (omega arith, simp length-set (l .inv .1), copy-more (now (a .seg)) (now (a .out)) (l .out) (l .i) (l .inv .2) (omega arith) (omega arith))
+
+same-length : tie.Need-same-length Inv-loop μ-loop
+same-length c = c .before .loop .inv .1
+
+returns : tie.Need-returns Inv-loop μ-loop
+returns c =
+    let a = c .before .before .args in
+    c .before .loop .inv .2 ∙ copy-all (now (a .seg)) (now (a .out)) (c .before .loop .i) (omega arith)
+
+pub copy-spec : {M : Type 1} → statement M
+copy-spec =
+    tie.close
+    (tie.spec
+    Inv-loop
+    μ-loop
+    loop-holds
+    (λ c. search needs)
+    slice-write-out
+    (λ c. search needs)
+    (λ c. search needs)
+    loop-again
+    same-length
+    returns)

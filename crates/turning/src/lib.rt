@@ -1,0 +1,154 @@
+// Turning a segment to the other byte sex: its bytes copied, then the two bytes at each word position written swapped.
+// Above: the bench and the comparing of segments. Below: the header, the routines and the checks of `segment`.
+use segment::Segment;
+use segment::Verdict;
+ghost use mathlib.Core.Path.{_≡_};
+ghost use mathlib.Core.List.{_++_};
+ghost use Prim.Native.Nat.{_+_, _*_, _≤_, _<_};
+ghost use lib.Dec.{eqb};
+ghost use lib.ListN.{length, drop};
+ghost use Rattle.basis.specs.Bools.{inside};
+ghost use Rattle.segment.specs.Head.{count};
+ghost use Rattle.segment.specs.Judge.{judged};
+ghost use Rattle.turning.specs.Turn.{frame, framed, position, swapAt, turned, turnVerdict, turnedInto};
+
+// Word w is EXITIC or DATASIZE of the entry e.
+fn at_frame(e: u16, w: u32) -> bool
+    ensures { λ r. ⌜ r ≡ frame e w ⌝ }
+{
+    let at = w as u64;
+    word::either(at + 1 == (e as u64), at == (e as u64))
+}
+
+// Word w is EXITIC or DATASIZE of some routine.
+fn at_frames(seg: &[u8], w: u32) -> bool
+    ensures { λ r. ⌜ r ≡ framed (now (seg .entry)) (count (now (seg .entry))) w ⌝ }
+{
+    let mut k = segment::count_of(seg);
+    while 0 < k {
+        if at_frame(segment::entry_of(seg, k), w) {
+            return true;
+        }
+        k -= 1;
+    }
+    false
+}
+
+// Whether word w is a word position.
+pub fn is_position(seg: &[u8], w: u32) -> bool
+    ensures { λ r. ⌜ r ≡ position (now (seg .entry)) w ⌝ }
+{
+    let at = w as usize;
+    let d = segment::dict_of(seg) as usize;
+    let n = segment::count_of(seg) as usize;
+    let fixed = word::either(
+        word::within(Segment::DICT as usize, Segment::NAME as usize, at),
+        word::within(Segment::SEX as usize, Segment::BODY, at),
+    );
+    word::either(
+        word::either(fixed, word::within(d, d + n + 1, at)),
+        at_frames(seg, w),
+    )
+}
+
+// Copies the segment to the first bytes of the output.
+fn copy(seg: &[u8], out: &mut [u8])
+    requires { ⌜ length (now seg) ≤ length (now out) ⌝ }
+    ensures { λ _. ⌜ now (out .exit) ≡ now (seg .entry) ++ drop (length (now (seg .entry))) (now (out .entry)) ⌝ }
+{
+    let mut i = 0;
+    while i < seg.len() {
+        out[i] = seg[i];
+        i += 1;
+    }
+}
+
+// Writes the two bytes of word w swapped. They come from the segment and never from the output, so that a word that
+// is written twice is swapped once.
+fn swap_word(seg: &[u8], out: &mut [u8], w: u32)
+    requires { ⌜ (2 * w + 1 < length (now seg)) × (length (now seg) ≤ length (now out)) ⌝ }
+    ensures { λ _. ⌜ now (out .exit) ≡ swapAt (eqb w) (now (seg .entry)) (now (out .entry)) ⌝ }
+{
+    let at = 2 * (w as usize);
+    out[at] = seg[at + 1];
+    out[at + 1] = seg[at];
+}
+
+// The words from `first` up to `end`.
+fn swap_words(seg: &[u8], out: &mut [u8], first: u32, end: u32)
+    requires { ⌜ (first ≤ end) × (2 * end ≤ length (now seg)) × (length (now seg) ≤ length (now out)) ⌝ }
+    ensures { λ _. ⌜ now (out .exit) ≡ swapAt (inside first end) (now (seg .entry)) (now (out .entry)) ⌝ }
+{
+    let mut w = first;
+    while w < end {
+        swap_word(seg, out, w);
+        w += 1;
+    }
+}
+
+// EXITIC and DATASIZE of every routine.
+fn swap_frames(seg: &[u8], out: &mut [u8])
+    requires { ⌜ (judged (now seg) ≡ Verdict.Accepted) × (length (now seg) ≤ length (now out)) ⌝ }
+    ensures { λ _. ⌜ now (out .exit) ≡ swapAt (framed (now (seg .entry)) (count (now (seg .entry)))) (now (seg .entry)) (now (out .entry)) ⌝ }
+{
+    let n = segment::count_of(seg);
+    let mut k: u16 = 0;
+    while k < n {
+        k += 1;
+        let e = segment::entry_of(seg, k) as u32;
+        swap_words(seg, out, e - 1, e + 1);
+    }
+}
+
+// An accepted segment in the other byte sex, in the first bytes of the output.
+fn turn_words(seg: &[u8], out: &mut [u8])
+    requires { ⌜ (judged (now seg) ≡ Verdict.Accepted) × (length (now seg) ≤ length (now out)) ⌝ }
+    ensures { λ _. ⌜ now (out .exit) ≡ turned (now (seg .entry)) ++ drop (length (now (seg .entry))) (now (out .entry)) ⌝ }
+{
+    let d = segment::dict_of(seg) as u32;
+    let n = segment::count_of(seg) as u32;
+    copy(seg, out);
+    swap_words(seg, out, Segment::DICT, Segment::NAME);
+    swap_words(seg, out, Segment::SEX, Segment::BODY as u32);
+    swap_words(seg, out, d, d + n + 1);
+    swap_frames(seg, out);
+}
+
+// A refusal with place 0.
+fn refused(number: u8) -> Verdict
+    ensures { λ r. ⌜ r ≡ Verdict.Refused number 0 ⌝ }
+{
+    Verdict::Refused { number, place: 0 }
+}
+
+// Checks 1 to 10, for an output of `room` bytes.
+fn judge_turn(seg: &[u8], room: usize) -> Verdict
+    ensures { λ r. ⌜ r ≡ turnVerdict (now (seg .entry)) room ⌝ }
+{
+    let v = segment::judge(seg);
+    if let Verdict::Refused {
+        number: _,
+        place: _,
+    } = v {
+        return v;
+    }
+    if segment::pool_of(seg) != 0 {
+        return refused(9);
+    }
+    if room < seg.len() {
+        return refused(10);
+    }
+    Verdict::Accepted
+}
+
+// The segment in the other byte sex, in the first bytes of out; where it is refused, out is unchanged.
+pub fn turn(seg: &[u8], out: &mut [u8]) -> Verdict
+    ensures answer { λ r. ⌜ r ≡ turnVerdict (now (seg .entry)) (length (now (out .entry))) ⌝ }
+    ensures output { λ r. ⌜ now (out .exit) ≡ turnedInto r (now (seg .entry)) (now (out .entry)) ⌝ }
+{
+    let v = judge_turn(seg, out.len());
+    if let Verdict::Accepted = v {
+        turn_words(seg, out);
+    }
+    v
+}

@@ -1,0 +1,12 @@
+-- `word::bit_not` meets its contract. Assumes nothing.
+use mathlib.Core.Path.{refl}
+use Rattle.basis.specs.Integer.{notOf, flipped}
+use Rattle.word.proofs.integers.bit_not.Statement.{statement}
+use Rattle.word.proofs.integers.bit_not.Tie as tie
+
+returns : tie.Need-returns
+unfolding notOf flipped
+returns c = refl
+
+pub bit-not-spec : {M : Type 1} → statement M
+bit-not-spec = tie.close (tie.spec returns)
