@@ -1,0 +1,29 @@
+-- The table's packed number of a row of appendix B: operand form, words given and words taken, or the mark "not carried".
+-- Above: the constant table of the code, held to this by one computed test; below: the opcode definition of `pmachine`.
+use mathlib.Core.Path.{_≡_}
+use mathlib.Core.List.{List, [], _∷_}
+use Prim.Native.Nat.{ℕ, _+_, _*_, _<_}
+use lib.ListN.{getD}
+use Rattle.operand.specs.Operand.{Form, UB, SB, DB, B, W}
+use Rattle.pmachine.specs.Opcode.{Row, carried, uncarried, opcode}
+
+abbrev pub digit : Form → ℕ
+digit UB = 1
+digit SB = 2
+digit DB = 3
+digit B = 4
+digit W = 5
+
+-- the operands' digits to base 8, the first operand's the lowest
+unfoldable pub packedForms : List Form → ℕ
+packedForms [] = 0
+packedForms (f ∷ fs) = digit f + 8 * packedForms fs
+
+-- the top bit marks a byte that is not carried
+unfoldable pub packed : Row → ℕ
+packed (carried forms taken given does) = packedForms forms * 65536 + given * 256 + taken
+packed uncarried = 2147483648
+
+-- the number at each first byte is that byte's
+abbrev pub Agrees : List ℕ → Type 0
+Agrees t = (b : ℕ) → b < 256 → getD t b 0 ≡ packed (opcode b)

@@ -1,0 +1,4 @@
+pub mod Links
+pub mod Meanings
+pub mod Decodes
+pub mod Arms

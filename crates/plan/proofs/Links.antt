@@ -1,0 +1,87 @@
+-- A walk of no link and of at least one, as the code counts; and where a routine is entered, as the code reads it.
+-- Above: the proofs of walk, enter and in_order; below: Step of `pmachine`, and what Facts tell.
+use mathlib.Core.Path.{_≡_, refl, ap, _∙_}
+use mathlib.Core.List.{List}
+use mathlib.Core.Bool.{Bool, true, false, cond}
+use Prim.Native.Nat.{ℕ, zero, suc, _+_, _-_, _*_, _≤_}
+use native.Mathlib.Omega.{arith}
+use borrow.Author.Tests.{le-leb, eq-eqb, ne-eqb}
+use lib.Dec.{ltb, leb, eqb}
+use lib.ListN.{getD}
+use Rattle.basis.specs.Bools.{inside}
+use Rattle.basis.proofs.Bools.{leb-iff}
+use Rattle.operand.specs.Bytes.{wordBy}
+use Rattle.segment.specs.Head.{least, word, dict, count, entry, datasize, start}
+use Rattle.pmachine.specs.Step.{reaches, broken, pointer, follow, floor}
+use Rattle.plan.specs.declared.Facts.{Facts}
+use Rattle.plan.specs.declared.Entry.the-variants.{To, Not}
+use Rattle.plan.specs.Answer.{entered, inOrder}
+use Rattle.plan.specs.Told.{sexOf, Told}
+
+pub walk-none : (w : List ℕ) (m d : ℕ) → d ≡ 0 → follow w m d ≡ reaches m
+unfolding follow
+walk-none w m zero e = refl
+walk-none w m (suc d) e = absurd (omega arith)
+
+pub walk-more : (w : List ℕ) (m d : ℕ) → (d ≡ 0 → ⊥)
+    → follow w m d ≡ cond (pointer w (getD w m 0)) (follow w (getD w m 0) (d - 1)) broken
+unfolding follow
+walk-more w m zero h = absurd (h refl)
+walk-more w m (suc d) h =
+    let e : d ≡ suc d - 1 = omega arith in
+    ap (λ (k : ℕ). cond (pointer w (getD w m 0)) (follow w (getD w m 0) k) broken) e
+
+-- below n + 1 is n at most
+pub below-suc : (p n : ℕ) → ltb p (n + 1) ≡ leb p n
+below-suc p n = leb-iff (suc p) (n + 1) p n (omega arith) (omega arith)
+
+-- a mark whose other numbers are in order turns on the new stack pointer's bound
+pub order-last : (len size n low : ℕ) (mark : List ℕ) (sp : ℕ) → 1 ≤ getD mark 1 0 → getD mark 1 0 + 5 ≤ size → 1 ≤ getD mark 4 0 → getD mark 4 0 ≤ n
+    → getD mark 3 0 ≡ 1 → 22 ≤ getD mark 2 0 → getD mark 2 0 ≤ len → low ≤ sp → leb sp size ≡ inOrder len size n low mark sp
+unfolding inOrder inside
+order-last len size n low mark sp a b c d e f g h =
+    rw (
+      le-leb _ _ a,
+      le-leb _ _ b,
+      le-leb _ _ c,
+      below-suc (getD mark 4 0) n,
+      le-leb _ _ d,
+      eq-eqb _ _ e,
+      le-leb _ _ f,
+      below-suc (getD mark 2 0) len,
+      le-leb _ _ g,
+      le-leb _ _ h,
+      below-suc sp size,
+    )
+
+module _ (s : List ℕ) (f : Facts) (t : Told s f) where
+  sex-told : eqb (f .sex) 0 ≡ least s
+  sex-told = go (least s) (t .sexes)
+    where
+      go : (b : Bool) → f .sex ≡ sexOf b → eqb (f .sex) 0 ≡ b
+      go true e = eq-eqb (f .sex) 0 e
+      go false e = ne-eqb (f .sex) 0 (λ z. omega (arith, e, z))
+
+  word-told : (w : ℕ) → wordBy (eqb (f .sex) 0) s w ≡ word s w
+  unfolding word
+  word-told w = ap (λ (b : Bool). wordBy b s w) sex-told
+
+  pub entry-told : (k e : ℕ) → e ≡ wordBy (eqb (f .sex) 0) s (f .dict + k) → e ≡ entry s k
+  unfolding entry
+  entry-told k e a = a ∙ (word-told (f .dict + k) ∙ ap (λ (d : ℕ). word s (d + k)) (t .dicts))
+
+  pub size-told : (k e z : ℕ) → e ≡ entry s k → z ≡ wordBy (eqb (f .sex) 0) s e → z ≡ datasize s k
+  unfolding datasize
+  size-told k e z a b = b ∙ (word-told e ∙ ap (word s) a)
+
+  -- with the entry and the size that were read
+  pub entered-told : (sp k e z : ℕ) → e ≡ wordBy (eqb (f .sex) 0) s (f .dict + k) → z ≡ wordBy (eqb (f .sex) 0) s e
+      → entered s sp k
+      ≡ cond (ltb k 1) (Not 8)
+      (cond (ltb (f .count) k) (Not 8) (cond (ltb sp (f .floor + 5 + z)) (Not 4) (To (sp - 5 - z) (2 * (e + 1)))))
+  unfolding entered start
+  entered-told sp k e z a b =
+      let i = entry-told k e a in
+      let j = size-told k e z i b in
+      let d : sp - (5 + datasize s k) ≡ sp - 5 - datasize s k = omega arith in
+      rw (t .counts, t .floors, i, j, d)

@@ -1,0 +1,30 @@
+-- `plan::flow::branch` meets its contract. Assumes nothing.
+use Rattle.plan.specs.Answer.{outcomeOf, branched}
+use borrow.Author.Tests.{eq-eqb, ne-eqb}
+use borrow.Author.Needs.{needs}
+use Rattle.plan.proofs.flow.branch.Statement.{statement}
+use Rattle.plan.proofs.flow.branch.Tie as tie
+
+word-of-requires : tie.Need-word-of-requires
+word-of-requires c κs = search needs
+
+add-jump : tie.Need-add-jump
+add-jump c = search needs
+
+jump-requires : tie.Need-jump-requires
+jump-requires c κs = search needs
+
+returns : tie.Need-returns
+unfolding outcomeOf branched
+returns c = simp (← c .jump .ensures, eq-eqb _ _ (c .before .before .if1 .taken), ← c .before .before .before .word-of .ensures)
+
+add-t11 : tie.Need-add-t11
+add-t11 c = search needs
+
+returns-2 : tie.Need-returns-2
+unfolding outcomeOf branched
+returns-2 c = simp (ne-eqb _ _ (c .before .if1 .left), ← c .before .before .word-of .ensures)
+
+pub branch-spec : {M : Type 1} → statement M
+branch-spec =
+    tie.close (tie.spec word-of-requires add-jump jump-requires returns add-t11 returns-2)

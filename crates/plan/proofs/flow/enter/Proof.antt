@@ -1,0 +1,85 @@
+-- `plan::flow::enter` meets its contract. Assumes nothing.
+use native.Mathlib.Omega.{arith}
+use borrow.Author.Tests.{lt-ltb, le-ltb}
+use Rattle.plan.specs.Answer.{entered}
+use Rattle.plan.proofs.Links.{entry-told, entered-told}
+use borrow.Author.Needs.{needs}
+use Rattle.plan.proofs.flow.enter.Statement.{statement}
+use Rattle.plan.proofs.flow.enter.Tie as tie
+
+returns : tie.Need-returns
+unfolding entered
+returns c = simp (lt-ltb _ _ (c .if1 .taken))
+
+returns-2 : tie.Need-returns-2
+unfolding entered
+returns-2 c = simp (← c .before .before .before .before .pre .1 .counts, lt-ltb _ _ (c .if2 .taken), le-ltb _ _ (c .before .before .if1 .left))
+
+add-word-in : tie.Need-add-word-in
+add-word-in c = search needs
+
+word-in-requires : tie.Need-word-in-requires
+word-in-requires c κs = search needs
+
+cast-e : tie.Need-cast-e
+cast-e c = search needs
+
+word-in-requires-2 : tie.Need-word-in-requires-2
+word-in-requires-2 c κs =
+    let l = c .before .before .before .before .before .before .before .pre .0 in
+    let t = c .before .before .before .before .before .before .before .pre .1 in
+    let f = l .routines (c .before .before .before .before .before .before .before .args .k) (omega arith) (omega (arith, t .counts)) in
+    omega (arith, f .entry-high, l .even, entry-told (c .before .before .before .before .before .before .before .args .seg .now) (c .before .before .before .before .before .before .before .args .facts) t (c .before .before .before .before .before .before .before .args .k) _ (c .word-in .ensures))
+
+cast-size : tie.Need-cast-size
+cast-size c = search needs
+
+add-if3 : tie.Need-add-if3
+add-if3 c =
+    let l = c .before .before .before .before .before .before .before .before .before .pre .0 in
+    let f = l .routines 1 (omega arith) (l .some) in
+    omega (arith, f .size, c .before .before .before .before .before .before .before .before .before .pre .1 .floors)
+
+add-if3-2 : tie.Need-add-if3-2
+add-if3-2 c =
+    let l = c .before .before .before .before .before .before .before .before .before .pre .0 in
+    let f = l .routines 1 (omega arith) (l .some) in
+    omega (arith, f .size, c .before .before .before .before .before .before .before .before .before .pre .1 .floors)
+
+returns-3 : tie.Need-returns-3
+returns-3 c = simp (entered-told (c .before .before .before .before .before .before .before .before .before .before .args .seg .now) (c .before .before .before .before .before .before .before .before .before .before .args .facts) (c .before .before .before .before .before .before .before .before .before .before .pre .1) (c .before .before .before .before .before .before .before .before .before .before .args .sp) (c .before .before .before .before .before .before .before .before .before .before .args .k) (c .before .before .before .word-in .result) (c .before .before .word-in2 .result) (c .before .before .before .word-in .ensures) (c .before .before .word-in2 .ensures), lt-ltb _ _ (c .if3 .taken), le-ltb _ _ (c .before .before .before .before .before .before .if2 .left), le-ltb _ _ (c .before .before .before .before .before .before .before .before .if1 .left))
+
+sub-t11 : tie.Need-sub-t11
+sub-t11 c = search needs
+
+sub-t9 : tie.Need-sub-t9
+sub-t9 c = search needs
+
+add-t12 : tie.Need-add-t12
+add-t12 c = search needs
+
+mul-t13 : tie.Need-mul-t13
+mul-t13 c = search needs
+
+returns-4 : tie.Need-returns-4
+returns-4 c = simp (entered-told (c .before .before .before .before .before .before .before .before .before .before .args .seg .now) (c .before .before .before .before .before .before .before .before .before .before .args .facts) (c .before .before .before .before .before .before .before .before .before .before .pre .1) (c .before .before .before .before .before .before .before .before .before .before .args .sp) (c .before .before .before .before .before .before .before .before .before .before .args .k) (c .before .before .before .word-in .result) (c .before .before .word-in2 .result) (c .before .before .before .word-in .ensures) (c .before .before .word-in2 .ensures), le-ltb _ _ (c .if3 .left), le-ltb _ _ (c .before .before .before .before .before .before .if2 .left), le-ltb _ _ (c .before .before .before .before .before .before .before .before .if1 .left))
+
+pub enter-spec : {M : Type 1} → statement M
+enter-spec =
+    tie.close
+    (tie.spec
+    returns
+    returns-2
+    add-word-in
+    word-in-requires
+    cast-e
+    word-in-requires-2
+    cast-size
+    add-if3
+    add-if3-2
+    returns-3
+    sub-t11
+    sub-t9
+    add-t12
+    mul-t13
+    returns-4)

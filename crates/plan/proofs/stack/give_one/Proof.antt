@@ -1,0 +1,12 @@
+-- `plan::stack::give_one` meets its contract. Assumes nothing.
+use mathlib.Core.Path.{refl}
+use Rattle.plan.specs.Answer.{outcomeOf}
+use Rattle.plan.proofs.stack.give_one.Statement.{statement}
+use Rattle.plan.proofs.stack.give_one.Tie as tie
+
+returns : tie.Need-returns
+unfolding outcomeOf
+returns c = refl
+
+pub give-one-spec : {M : Type 1} → statement M
+give-one-spec = tie.close (tie.spec returns)

@@ -1,0 +1,96 @@
+// Words of records, addresses, and the constant pool: what is read, and where a word may be stored.
+// Above: `judge`; below: stack.
+use crate::Planned;
+use crate::Read;
+use crate::Regs;
+use crate::stack::push;
+use crate::stack::word_of;
+ghost use mathlib.Core.Path.{_≡_};
+ghost use Prim.Native.Nat.{_+_, _≤_, _<_};
+ghost use lib.ListN.{length};
+ghost use Rattle.plan.specs.Answer.{regsOf, outcomeOf, loaded, addressed, stored, readAt, storedAt, pooled};
+
+// Offset a of the record at rec.
+pub fn load(region: &[u16], floor: usize, r: Regs, rec: usize, a: u16, next: usize) -> Planned
+    requires { ⌜ (1 ≤ r .sp) × (rec ≤ 32768) ⌝ }
+    ensures { λ p. ⌜ outcomeOf r p ≡ loaded (now (region .entry)) floor (regsOf r) rec a next ⌝ }
+{
+    let at = rec + 4 + a as usize;
+    if region.len() <= at {
+        return Planned::Bad(6);
+    }
+    push(floor, r, next, word_of(region, at))
+}
+
+pub fn address(region: &[u16], floor: usize, r: Regs, rec: usize, a: u16, next: usize) -> Planned
+    requires { ⌜ (1 ≤ r .sp) × ((rec ≤ 32768) × (length (now region) ≤ 32768)) ⌝ }
+    ensures { λ p. ⌜ outcomeOf r p ≡ addressed (now (region .entry)) floor (regsOf r) rec a next ⌝ }
+{
+    let at = rec + 4 + a as usize;
+    if region.len() <= at {
+        return Planned::Bad(6);
+    }
+    push(floor, r, next, at as u16)
+}
+
+pub fn store(region: &[u16], r: Regs, rec: usize, a: u16, next: usize) -> Planned
+    requires { ⌜ (r .sp < length (now region)) × ((rec ≤ 32768) × (length (now region) ≤ 32768)) ⌝ }
+    ensures { λ p. ⌜ outcomeOf r p ≡ stored (now (region .entry)) (regsOf r) rec a next ⌝ }
+{
+    let at = rec + 4 + a as usize;
+    if region.len() <= at {
+        return Planned::Bad(6);
+    }
+    Planned::Put(r.sp + 1, next, at, word_of(region, r.sp))
+}
+
+// The word i words on from the address base.
+pub fn read_at(region: &[u16], shared: &[u16], base: u16, i: u16) -> Read
+    requires { ⌜ (length (now region) ≤ 32768) × (length (now shared) ≤ 32768) ⌝ }
+    ensures { λ v. ⌜ v ≡ readAt (now (region .entry)) (now (shared .entry)) base i ⌝ }
+{
+    if base < 1 {
+        return Read::Missing;
+    }
+    let at = base as usize + i as usize;
+    if at < region.len() {
+        return Read::Value(word_of(region, at));
+    }
+    if at < 32768 {
+        return Read::Missing;
+    }
+    if shared.len() <= at - 32768 {
+        return Read::Missing;
+    }
+    Read::Value(word_of(shared, at - 32768))
+}
+
+// The top word goes to the address below it.
+pub fn store_at(region: &[u16], r: Regs, next: usize) -> Planned
+    requires { ⌜ (r .sp + 2 ≤ length (now region)) × (length (now region) ≤ 32768) ⌝ }
+    ensures { λ p. ⌜ outcomeOf r p ≡ storedAt (now (region .entry)) (regsOf r) next ⌝ }
+{
+    let at = word_of(region, r.sp + 1) as usize;
+    if at < 1 {
+        return Planned::Bad(6);
+    }
+    if region.len() <= at {
+        return Planned::Bad(6);
+    }
+    Planned::Put(r.sp + 2, next, at, word_of(region, r.sp))
+}
+
+// The word offset a of the constant pool, as a word number of the segment.
+pub fn pool_offset(words: usize, pool: usize, floor: usize, r: Regs, next: usize, a: u16) -> Planned
+    requires { ⌜ (words ≤ 32767) × ((pool ≤ 65535) × (1 ≤ r .sp)) ⌝ }
+    ensures { λ p. ⌜ outcomeOf r p ≡ pooled words pool floor (regsOf r) next a ⌝ }
+{
+    if pool == 0 {
+        return Planned::Bad(6);
+    }
+    let at = pool + a as usize;
+    if words <= at {
+        return Planned::Bad(6);
+    }
+    push(floor, r, next, at as u16)
+}

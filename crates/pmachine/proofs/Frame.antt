@@ -1,0 +1,69 @@
+-- What a step leaves as it is: the words outside those written; and, where it faults or finishes, words and registers.
+-- Above: the proofs of the code's step; below: Run, Runs.
+use Prim.Native.Nat.{ℕ, zero, suc, _+_, _<_, _≤_}
+use native.Mathlib.Omega.{arith}
+use mathlib.Core.Path.{_≡_, refl, sym, ap, _∙_}
+use mathlib.Core.List.{List, [], _∷_}
+use mathlib.Core.Bool.{true, false, false≢true}
+use lib.ListN.{length, getD, set, length-set}
+use lib.Seq.{getD-set-same, getD-set-other}
+use Rattle.pmachine.specs.State.{Registers, ready, finished, faulted, State}
+use Rattle.pmachine.specs.Step.{Outcome, fault, finish, goes, judge}
+use Rattle.pmachine.specs.Run.{isReady, written, settled, step}
+use Rattle.pmachine.proofs.Runs.{step-ready}
+
+-- ---- the words from a place upward
+
+pub written-below : (ws w : List ℕ) (at i : ℕ) → i < at → getD (written w at ws) i 0 ≡ getD w i 0
+unfolding written
+written-below [] w at i h = refl
+written-below (v ∷ vs) w at i h = written-below vs (set w at v) (at + 1) i (omega arith) ∙ getD-set-other w at i v 0 (omega arith)
+
+pub written-above : (ws w : List ℕ) (at i : ℕ) → at + length ws ≤ i → getD (written w at ws) i 0 ≡ getD w i 0
+unfolding written
+written-above [] w at i h = refl
+written-above (v ∷ vs) w at i h = written-above vs (set w at v) (at + 1) i (omega arith) ∙ getD-set-other w at i v 0 (omega arith)
+
+pub written-at : (ws w : List ℕ) (at k : ℕ) → at + length ws ≤ length w → k < length ws → getD (written w at ws) (at + k) 0 ≡ getD ws k 0
+unfolding written
+written-at [] w at k f h = absurd (omega arith)
+written-at (v ∷ vs) w at zero f h =
+    let e : at + 0 ≡ at = omega arith in
+    rw e (written-below vs (set w at v) (at + 1) at (omega arith) ∙ getD-set-same w at v 0 (omega arith))
+written-at (v ∷ vs) w at (suc k) f h =
+    let e : at + suc k ≡ at + 1 + k = omega arith in
+    rw e (written-at vs (set w at v) (at + 1) k (omega (arith, length-set w at v)) (omega arith))
+
+-- ---- one step
+
+settled-kept : (w : List ℕ) (r : Registers) (o : Outcome) → isReady (settled w r o .kind) ≡ false → (settled w r o .words ≡ w) × (settled w r o .registers ≡ r)
+unfolding settled isReady
+settled-kept w r (fault n) e = (refl, refl)
+settled-kept w r finish e = (refl, refl)
+settled-kept w r (goes q at ws) e = absurd (false≢true (sym e))
+
+module _ (s shared : List ℕ) (t : State) (e : isReady (t .kind) ≡ true) where
+  pub step-fault : {n : ℕ} → judge s shared (t .words) (t .registers) ≡ fault n
+      → step s shared t ≡ record { words = t .words; registers = t .registers; kind = faulted n (t .registers .counter) }
+  unfolding settled
+  step-fault h = step-ready s shared t e ∙ ap (settled (t .words) (t .registers)) h
+
+  pub step-finish : judge s shared (t .words) (t .registers) ≡ finish → step s shared t ≡ record { words = t .words; registers = t .registers; kind = finished }
+  unfolding settled
+  step-finish h = step-ready s shared t e ∙ ap (settled (t .words) (t .registers)) h
+
+  pub step-goes : {q : Registers} {at : ℕ} {ws : List ℕ} → judge s shared (t .words) (t .registers) ≡ goes q at ws
+      → step s shared t ≡ record { words = written (t .words) at ws; registers = q; kind = ready }
+  unfolding settled
+  step-goes h = step-ready s shared t e ∙ ap (settled (t .words) (t .registers)) h
+
+  -- a step after which the session is not ready leaves words and registers
+  pub step-kept : isReady (step s shared t .kind) ≡ false → (step s shared t .words ≡ t .words) × (step s shared t .registers ≡ t .registers)
+  step-kept h = rw (step-ready s shared t e) (settled-kept (t .words) (t .registers) (judge s shared (t .words) (t .registers)) (rw (step-ready s shared t e) at h))
+
+  module _ (q : Registers) (at : ℕ) (ws : List ℕ) (h : judge s shared (t .words) (t .registers) ≡ goes q at ws) (i : ℕ) where
+    pub step-frame-below : i < at → getD (step s shared t .words) i 0 ≡ getD (t .words) i 0
+    step-frame-below l = rw (step-goes h) (written-below ws (t .words) at i l)
+
+    pub step-frame-above : at + length ws ≤ i → getD (step s shared t .words) i 0 ≡ getD (t .words) i 0
+    step-frame-above l = rw (step-goes h) (written-above ws (t .words) at i l)

@@ -1,0 +1,87 @@
+-- A step and a run keep what soundness says of a session on its segment, and an opened session has it.
+-- Above: session and bench; below: Judged, Ranges, Runs.
+use Prim.Native.Nat.{ℕ, zero, suc, _≤_}
+use native.Mathlib.Omega.{arith}
+use mathlib.Core.Path.{_≡_, sym, _∙_, subst}
+use mathlib.Core.List.{List}
+use mathlib.Core.Bool.{true}
+use lib.ListN.{length, length-replicate}
+use Rattle.basis.proofs.Bools.{cond-holds}
+use Rattle.segment.specs.Head.{start}
+use Rattle.pmachine.specs.State.{Registers, ready, State}
+use Rattle.pmachine.specs.Step.{Outcome, fault, finish, goes, floor, judge}
+use Rattle.pmachine.specs.Run.{isReady, settled, step, run}
+use Rattle.pmachine.specs.Sound.{inRange, Ranged, starting, opened, Loaded}
+use Rattle.pmachine.proofs.Ranges.{KindRanged, ranged, kind-ranged, in-range}
+use Rattle.pmachine.proofs.Judged.{Good, judge-good}
+use Rattle.pmachine.proofs.Runs.{written-length, run-none, run-suc}
+
+-- a session on l words, in its ranges
+pub record Whole (s : List ℕ) (l : ℕ) (t : State) : Type 0 where
+  pub size : length (t .words) ≡ l
+  pub registers : Ranged s l (t .registers)
+  pub kind : KindRanged s (t .kind)
+
+module _ (s shared : List ℕ) (l : ℕ) (ld : Loaded s) where
+  settled-whole : (w : List ℕ) (r : Registers) (o : Outcome) → length w ≡ l → Ranged s l r → Good s l o → Whole s l (settled w r o)
+  unfolding settled
+  settled-whole w r (fault n) e h g = record { size = e; registers = h; kind = (g .0, g .1, h .counter-low, h .counter-high) }
+  settled-whole w r finish e h g = record { size = e; registers = h; kind = tt }
+  settled-whole w r (goes q at ws) e h g = record { size = written-length ws w at ∙ e; registers = g .registers; kind = tt }
+
+  pub step-whole : (t : State) → Whole s l t → Whole s l (step s shared t)
+  unfolding step
+  step-whole t h =
+      let w = t .words in
+      let r = t .registers in
+      let rg = subst (λ (n : ℕ). Ranged s n r) (sym (h .size)) (h .registers) in
+      let g = subst (λ (n : ℕ). Good s n (judge s shared w r)) (h .size) (judge-good s shared w r ld rg) in
+      cond-holds (Whole s l) (isReady (t .kind)) (λ _. settled-whole w r (judge s shared w r) (h .size) (h .registers) g) (λ _. h)
+
+  pub run-whole : (k : ℕ) (t : State) → Whole s l t → Whole s l (run s shared k t)
+  run-whole zero t h = rw (run-none s shared t) h
+  run-whole (suc k) t h = rw (run-suc s shared k t) (run-whole k (step s shared t) (step-whole t h))
+
+-- the same, by the test
+module _ (s : List ℕ) (l : ℕ) (t : State) where
+  pub whole : length (t .words) ≡ l → inRange s l (t .registers) (t .kind) ≡ true → Whole s l t
+  whole e h = record { size = e; registers = ranged s l (t .registers) (t .kind) h; kind = kind-ranged s l (t .registers) (t .kind) h }
+
+  pub whole-inRange : Whole s l t → inRange s l (t .registers) (t .kind) ≡ true
+  whole-inRange h = in-range s l (t .registers) (t .kind) (h .registers) (h .kind)
+
+module _ (s shared : List ℕ) (l : ℕ) (ld : Loaded s) where
+  pub step-keeps : (t : State) → length (t .words) ≡ l → inRange s l (t .registers) (t .kind) ≡ true
+      → inRange s l (step s shared t .registers) (step s shared t .kind) ≡ true
+  step-keeps t e h = whole-inRange s l (step s shared t) (step-whole s shared l ld t (whole s l t e h))
+
+  pub run-keeps : (k : ℕ) (t : State) → length (t .words) ≡ l → inRange s l (t .registers) (t .kind) ≡ true
+      → inRange s l (run s shared k t .registers) (run s shared k t .kind) ≡ true
+  run-keeps k t e h = whole-inRange s l (run s shared k t) (run-whole s shared l ld k t (whole s l t e h))
+
+-- ---- the starting state
+
+module _ (s : List ℕ) (l : ℕ) where
+  pub starting-ranged : Loaded s → floor s ≤ l → Ranged s l (starting s l)
+  unfolding starting start
+  starting-ranged ld h =
+      let f = ld .routines 1 (omega arith) (ld .some) in
+      record {
+        low = h;
+        sp-low = h;
+        sp-high = omega arith;
+        m-low = omega arith;
+        m-high = omega arith;
+        counter-low = omega (arith, f .entry-low);
+        counter-high = omega (arith, f .entry-high, ld .even);
+        routine-low = omega arith;
+        routine-high = ld .some;
+      }
+
+  pub opened-length : length (opened s l .words) ≡ l
+  unfolding opened
+  opened-length = length-replicate l 0
+
+  pub opened-inRange : Loaded s → floor s ≤ l → inRange s l (opened s l .registers) (opened s l .kind) ≡ true
+  unfolding opened
+  opened-inRange ld h = in-range s l (starting s l) ready (starting-ranged ld h) tt

@@ -1,0 +1,83 @@
+-- What the opcode table says of every first byte alike: few words taken and given, and room for those that the meaning writes on the stack.
+-- One test that antt computes over the bytes shows it, and past them nothing is carried. Above: Decoded; below: Opcode.
+use Prim.Native.Nat.{ℕ, zero, suc, _<_, _≤_}
+use native.Mathlib.Nat.{le-of-suc-le-suc, not-suc-le-zero, eq-or-lt-of-le}
+use native.Mathlib.Omega.{arith}
+use native.Mathlib.Decide.{decLt}
+use mathlib.Core.Path.{_≡_, refl, sym, subst}
+use mathlib.Core.Logic.{⊎-elim}
+use mathlib.Core.List.{List, [], _∷_}
+use mathlib.Core.Bool.{Bool, true, false, _&&_}
+use lib.Dec.{T, leb, leb→le}
+use borrow.Author.Tests.{leb-true, lt-leb}
+use Rattle.basis.specs.Bools.{every}
+use Rattle.basis.proofs.Bools.{every-holds, and-fst, and-snd}
+use Rattle.pmachine.specs.Meaning.{Meaning, constant, pool-offset, load, address, store, index, indirect, unary, binary, division, duplicate, swap, nothing, subrange, jump, jump-if, call, return}
+use Rattle.pmachine.specs.Opcode.{Row, carried, uncarried, opcode}
+
+-- the words that a meaning writes on the stack
+unfoldable pub pushes : Meaning → ℕ
+pushes (constant v) = 1
+pushes (pool-offset b) = 1
+pushes (load p x) = 1
+pushes (address p x) = 1
+pushes (store p x) = 0
+pushes (index i) = 1
+pushes indirect = 0
+pushes (unary f) = 1
+pushes (binary f) = 1
+pushes (division f) = 1
+pushes duplicate = 1
+pushes swap = 2
+pushes nothing = 0
+pushes subrange = 0
+pushes (jump d) = 0
+pushes (jump-if b d) = 0
+pushes (call p k) = 0
+pushes (return b) = 0
+
+-- of a row, whatever its operands
+abbrev pub Roomy : Row → Type 0
+Roomy (carried forms taken given does) = (taken ≤ 3) × (given ≤ 2) × ((vs : List ℕ) → pushes (does vs) ≤ given)
+Roomy uncarried = Unit {0}
+
+-- a test that passes at each number below n
+abbrev pub numbers : (ℕ → Bool) → ℕ → Bool
+numbers f zero = true
+numbers f (suc n) = f n && numbers f n
+
+pub at-number : (f : ℕ → Bool) (n : ℕ) → numbers f n ≡ true → (k : ℕ) → k < n → f k ≡ true
+at-number f zero t k h = absurd (not-suc-le-zero h)
+at-number f (suc n) t k h =
+    ⊎-elim (λ e. subst (λ (m : ℕ). f m ≡ true) (sym e) (and-fst (f n) (numbers f n) t))
+    (λ l. at-number f n (and-snd (f n) (numbers f n) t) k l)
+    (eq-or-lt-of-le (le-of-suc-le-suc h))
+
+abbrev roomy : List ℕ → Row → Bool
+roomy vs (carried forms taken given does) = every (leb taken 3 ∷ leb given 2 ∷ leb (pushes (does vs)) given ∷ [])
+roomy vs uncarried = true
+
+roomy-row : (row : Row) → ((vs : List ℕ) → roomy vs row ≡ true) → Roomy row
+roomy-row (carried forms taken given does) t =
+    let a = every-holds _ (t []) in
+    (leb-true _ _ (a .0), leb-true _ _ (a .1 .0), λ vs. leb-true _ _ (every-holds _ (t vs) .1 .1 .0))
+roomy-row uncarried t = tt
+
+bytes-roomy : (vs : List ℕ) (b : ℕ) → b < 242 → roomy vs (opcode b) ≡ true
+unfolding every opcode pushes
+bytes-roomy vs b h = at-number (λ (k : ℕ). roomy vs (opcode k)) 242 refl b h
+
+-- past the last byte that is carried
+high : (b : ℕ) → 241 < b → opcode b ≡ uncarried
+unfolding opcode
+high b h =
+    let past : (n : ℕ) → T (leb n 241) → leb b n ≡ false = λ n t. lt-leb b n (omega (arith, leb→le n 241 t)) in
+    let u : Unit {0} = tt in
+    simp past
+
+roomy-by : (b : ℕ) → Dec (b < 242) → Roomy (opcode b)
+roomy-by b (yes h) = roomy-row (opcode b) (λ vs. bytes-roomy vs b h)
+roomy-by b (no h) = rw (high b (omega arith)) tt
+
+pub opcode-roomy : (b : ℕ) → Roomy (opcode b)
+opcode-roomy b = roomy-by b (decLt b 242)

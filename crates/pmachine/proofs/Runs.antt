@@ -1,0 +1,134 @@
+-- Runs and their counts: where they stop, how they add up, and that the number of words stays. Nothing is asked of segment or state.
+-- Above: Keeps, session and bench; below: Run.
+use Prim.Native.Nat.{ℕ, zero, suc, _+_, _<_, _≤_}
+use native.Mathlib.Nat.{zero-add, suc-add}
+use native.Mathlib.Omega.{arith}
+use mathlib.Core.Path.{_≡_, refl, sym, ap, _∙_}
+use mathlib.Core.List.{List, [], _∷_}
+use mathlib.Core.Bool.{Bool, true, false, false≢true}
+use lib.ListN.{length, set, length-set}
+use Rattle.basis.proofs.Bools.{cond-holds}
+use Rattle.pmachine.specs.State.{Registers, State}
+use Rattle.pmachine.specs.Step.{Outcome, fault, finish, goes, judge}
+use Rattle.pmachine.specs.Run.{isReady, written, settled, step, run, count}
+
+-- ---- the number of words
+
+pub written-length : (ws w : List ℕ) (at : ℕ) → length (written w at ws) ≡ length w
+unfolding written
+written-length [] w at = refl
+written-length (v ∷ vs) w at = written-length vs (set w at v) (at + 1) ∙ length-set w at v
+
+settled-length : (w : List ℕ) (r : Registers) (o : Outcome) → length (settled w r o .words) ≡ length w
+unfolding settled
+settled-length w r (fault n) = refl
+settled-length w r finish = refl
+settled-length w r (goes q at ws) = written-length ws w at
+
+module _ (s shared : List ℕ) where
+  pub step-length : (t : State) → length (step s shared t .words) ≡ length (t .words)
+  unfolding step
+  step-length t =
+      cond-holds (λ (u : State). length (u .words) ≡ length (t .words)) (isReady (t .kind))
+      (λ _. settled-length (t .words) (t .registers) (judge s shared (t .words) (t .registers))) (λ _. refl)
+
+  -- ---- a session that is ready, and one that is not
+
+  pub step-ready : (t : State) → isReady (t .kind) ≡ true → step s shared t ≡ settled (t .words) (t .registers) (judge s shared (t .words) (t .registers))
+  unfolding step
+  step-ready t e = rw e
+
+  pub step-stopped : (t : State) → isReady (t .kind) ≡ false → step s shared t ≡ t
+  unfolding step
+  step-stopped t e = rw e
+
+  pub run-none : (t : State) → run s shared 0 t ≡ t
+  unfolding run
+  run-none t = refl
+
+  pub count-none : (t : State) → count s shared 0 t ≡ 0
+  unfolding count
+  count-none t = refl
+
+  pub run-stopped : (k : ℕ) (t : State) → isReady (t .kind) ≡ false → run s shared k t ≡ t
+  unfolding run
+  run-stopped zero t e = refl
+  run-stopped (suc k) t e = rw e
+
+  pub count-stopped : (k : ℕ) (t : State) → isReady (t .kind) ≡ false → count s shared k t ≡ 0
+  unfolding count
+  count-stopped zero t e = refl
+  count-stopped (suc k) t e = rw e
+
+  pub count-ready : (k : ℕ) (t : State) → isReady (t .kind) ≡ true → count s shared (suc k) t ≡ suc (count s shared k (step s shared t))
+  unfolding count
+  count-ready k t e = rw e
+
+  run-by : (k : ℕ) (t : State) (x : Bool) → isReady (t .kind) ≡ x → run s shared (suc k) t ≡ run s shared k (step s shared t)
+  unfolding run
+  run-by k t true e = rw e
+  run-by k t false e = rw (e, step-stopped t e) (sym (run-stopped k t e))
+
+  -- a run is its first step and the rest, whether or not the session is ready
+  pub run-suc : (k : ℕ) (t : State) → run s shared (suc k) t ≡ run s shared k (step s shared t)
+  run-suc k t = run-by k t (isReady (t .kind)) refl
+
+  pub run-length : (k : ℕ) (t : State) → length (run s shared k t .words) ≡ length (t .words)
+  run-length zero t = ap (λ (u : State). length (u .words)) (run-none t)
+  run-length (suc k) t = ap (λ (u : State). length (u .words)) (run-suc k t) ∙ (run-length k (step s shared t) ∙ step-length t)
+
+  -- ---- two turns are one turn of both their steps, and their counts add up
+
+  pub run-add : (a b : ℕ) (t : State) → run s shared (a + b) t ≡ run s shared b (run s shared a t)
+  run-add zero b t = rw (zero-add, run-none t)
+  run-add (suc a) b t = rw (suc-add a b, run-suc (a + b) t, run-suc a t) (run-add a b (step s shared t))
+
+  count-add-by : (a b : ℕ) (t : State) (x : Bool) → isReady (t .kind) ≡ x
+      → count s shared (a + b) (step s shared t) ≡ count s shared a (step s shared t) + count s shared b (run s shared a (step s shared t))
+      → count s shared (suc a + b) t ≡ count s shared (suc a) t + count s shared b (run s shared (suc a) t)
+  count-add-by a b t true e h = rw (suc-add a b, count-ready (a + b) t e, count-ready a t e, run-suc a t, h) (omega arith)
+  count-add-by a b t false e h =
+      rw (count-stopped (suc a + b) t e, count-stopped (suc a) t e, run-stopped (suc a) t e, count-stopped b t e)
+
+  pub count-add : (a b : ℕ) (t : State) → count s shared (a + b) t ≡ count s shared a t + count s shared b (run s shared a t)
+  count-add zero b t = rw (zero-add, count-none t, run-none t, zero-add)
+  count-add (suc a) b t = count-add-by a b t (isReady (t .kind)) refl (count-add a b (step s shared t))
+
+  -- ---- the count against the steps asked for
+
+  count-most-by : (k : ℕ) (t : State) (x : Bool) → isReady (t .kind) ≡ x → count s shared k (step s shared t) ≤ k → count s shared (suc k) t ≤ suc k
+  count-most-by k t true e h = omega (arith, count-ready k t e)
+  count-most-by k t false e h = omega (arith, count-stopped (suc k) t e)
+
+  pub count-most : (k : ℕ) (t : State) → count s shared k t ≤ k
+  count-most zero t = omega (arith, count-none t)
+  count-most (suc k) t = count-most-by k t (isReady (t .kind)) refl (count-most k (step s shared t))
+
+  count-all-by : (k : ℕ) (t : State) (x : Bool) → isReady (t .kind) ≡ x → isReady (run s shared (suc k) t .kind) ≡ true
+      → (isReady (run s shared k (step s shared t) .kind) ≡ true → count s shared k (step s shared t) ≡ k) → count s shared (suc k) t ≡ suc k
+  count-all-by k t true e h f = count-ready k t e ∙ ap suc (f (rw (run-suc k t) at h))
+  count-all-by k t false e h f = absurd (false≢true (sym e ∙ (rw (run-stopped (suc k) t e) at h)))
+
+  -- a session that is still ready did all of them
+  pub count-all : (k : ℕ) (t : State) → isReady (run s shared k t .kind) ≡ true → count s shared k t ≡ k
+  count-all zero t h = count-none t
+  count-all (suc k) t h = count-all-by k t (isReady (t .kind)) refl h (count-all k (step s shared t))
+
+  -- and one that did fewer is not ready
+  pub count-less : (k : ℕ) (t : State) → count s shared k t < k → isReady (run s shared k t .kind) ≡ false
+  count-less k t l = go (isReady (run s shared k t .kind)) refl
+    where
+      go : (x : Bool) → isReady (run s shared k t .kind) ≡ x → isReady (run s shared k t .kind) ≡ false
+      go true e = absurd (omega (arith, count-all k t e))
+      go false e = e
+
+  count-run-by : (k : ℕ) (t : State) (x : Bool) → isReady (t .kind) ≡ x
+      → run s shared k (step s shared t) ≡ run s shared (count s shared k (step s shared t)) (step s shared t)
+      → run s shared (suc k) t ≡ run s shared (count s shared (suc k) t) t
+  count-run-by k t true e h = rw (count-ready k t e, run-suc k t, run-suc (count s shared k (step s shared t)) t) h
+  count-run-by k t false e h = rw (count-stopped (suc k) t e, run-none t) (run-stopped (suc k) t e)
+
+  -- the steps done are all that a run does
+  pub count-run : (k : ℕ) (t : State) → run s shared k t ≡ run s shared (count s shared k t) t
+  count-run zero t = rw (count-none t)
+  count-run (suc k) t = count-run-by k t (isReady (t .kind)) refl (count-run k (step s shared t))

@@ -1,0 +1,8 @@
+-- The documented p-machine: definitions only. Above: code, plan and machine, which are proved to do the same; below: segment, operand, word.
+pub mod State
+pub mod Meaning
+pub mod Opcode
+pub mod Decoding
+pub mod Step
+pub mod Run
+pub mod Sound
