@@ -1,0 +1,57 @@
+-- The marked cases (a) to (l) of document 01 as a single table, and what each says.
+-- Above: `cases-hold` (proofs/Table) proves all of it at once; below: every layer that a case speaks of.
+use mathlib.Core.Path.{_≡_}
+use mathlib.Core.List.{List, [], _∷_}
+use Prim.Native.Nat.{ℕ}
+use lib.ListN.{replicate}
+use Rattle.basis.specs.Integer.{addOf, mulOf, negOf, quotOf, remOf}
+use Rattle.operand.specs.Operand.{Form, B, W, Fetched, got, out, fetched}
+use Rattle.segment.specs.Small.{small, smallTurned}
+use Rattle.turning.specs.Turn.{turned}
+use Rattle.pmachine.specs.State.{Kind, ready, faulted, State}
+use Rattle.pmachine.specs.Sound.{opened}
+use Rattle.pmachine.specs.Run.{run, count}
+
+pub data Case : Type 0 where
+  reads : Form → List ℕ → Fetched → Case  -- the operand that these bytes hold
+  is : ℕ → ℕ → Case  -- two words are the same
+  turns : ℕ → ℕ → State → Case  -- a turn of so many steps of the small segment, opened with L = 16, returns a count and leaves a state
+  twin : List ℕ → List ℕ → Case  -- a segment's turned bytes
+
+abbrev pub Says : Case → Type 0
+Says (reads f bytes o) = fetched f bytes 0 ≡ o
+Says (is x y) = x ≡ y
+Says (turns k n t) = (count small [] k (opened small 16) ≡ n) × (run small [] k (opened small 16) ≡ t)
+Says (twin s t) = turned s ≡ t
+
+abbrev pub All : List Case → Type 0
+All [] = Unit {0}
+All (c ∷ cs) = Says c × All cs
+
+-- "after two steps words 15 and 14 hold 5 and 7 and SP is 14"
+unfoldable pub after : Kind → State
+after k =
+    record {
+      words = 0 ∷ 0 ∷ 0 ∷ 0 ∷ 0 ∷ 0 ∷ 0 ∷ 0 ∷ 0 ∷ 0 ∷ 0 ∷ 0 ∷ 0 ∷ 0 ∷ 7 ∷ 5 ∷ [];
+      registers = record { sp = 14; m = 1; counter = 32; routine = 1 };
+      kind = k;
+    }
+
+unfoldable pub cases : List Case
+cases =
+    reads B (0x7F ∷ []) (got 127 1)  -- (a) B from 7F is 127
+    ∷ reads B (0x80 ∷ 0x7F ∷ []) (got 127 2)  -- (b) 80 7F also 127, two bytes
+    ∷ reads B (0x80 ∷ 0x80 ∷ []) (got 128 2)  -- (c) 80 80 is 128
+    ∷ reads B (0xFF ∷ 0xFF ∷ []) (got 32767 2)  -- (d) FF FF is 32,767
+    ∷ reads B (0x80 ∷ []) (out 1)  -- (e) B from 80 at the segment's end, fault 1
+    ∷ reads W (0x34 ∷ 0x12 ∷ []) (got 4660 2)  -- (f) W from 34 12 is 4,660
+    ∷ is (addOf 32767 1) (negOf 32768)  -- (g) 32,767+1 is -32,768
+    ∷ is (mulOf 300 300) 24464  -- (h) 300 times 300 is 24,464
+    ∷ is (quotOf (negOf 7) 2) (negOf 3)  -- (i) -7 by 2 is -3, remainder -1
+    ∷ is (remOf (negOf 7) 2) (negOf 1)
+    ∷ is (quotOf (negOf 32768) (negOf 1)) (negOf 32768)  -- (j) -32,768 by -1 is -32,768, remainder 0
+    ∷ is (remOf (negOf 32768) (negOf 1)) 0
+    ∷ turns 2 2 (after ready)  -- (k) the small run
+    ∷ turns 9 3 (after (faulted 1 32))
+    ∷ twin small smallTurned  -- (l) its turned bytes
+    ∷ []
