@@ -1,0 +1,489 @@
+// The judgement of a step: the one fault, or what changes. It only reads.
+// Above: `machine`, which writes what is planned; below: `plan`, what each meaning comes to, and `code`, the first byte.
+use code::Decode;
+use operand::Operand;
+use plan::Facts;
+use plan::Link;
+use plan::Planned;
+use plan::Regs;
+use plan::address;
+use plan::branch;
+use plan::call;
+use plan::check_range;
+use plan::enter;
+use plan::few;
+use plan::give_back;
+use plan::give_one;
+use plan::give_read;
+use plan::give_two;
+use plan::jump;
+use plan::load;
+use plan::nos;
+use plan::pool_offset;
+use plan::push;
+use plan::quotient;
+use plan::read_at;
+use plan::remainder;
+use plan::store;
+use plan::store_at;
+use plan::tos;
+use plan::walk;
+ghost use mathlib.Core.Path.{_≡_};
+ghost use Prim.Native.Nat.{_+_, _≤_};
+ghost use lib.ListN.{length};
+ghost use Rattle.pmachine.specs.Opcode.{opcode};
+ghost use Rattle.pmachine.specs.Decoding.{rowDecoded};
+ghost use Rattle.pmachine.specs.Step.{judgedBy, judge as Step·judge};
+ghost use Rattle.pmachine.specs.Sound.{Loaded, Ranged};
+ghost use Rattle.code.specs.Packed.{Agrees};
+ghost use Rattle.plan.specs.Answer.{regsOf, outcomeOf};
+ghost use Rattle.plan.specs.Told.{Told};
+ghost use Rattle.judge.specs.Fault.{numberOf};
+
+// What the instruction of a first byte does, whose operands stand at `at`. One flat match, one arm a byte or a short range: a match in a
+// match would be a second jump at every step, and a function for each part of it would pass its answer through memory.
+fn act(
+    seg: &[u8],
+    facts: Facts,
+    region: &[u16],
+    shared: &[u16],
+    r: Regs,
+    op: u8,
+    at: usize,
+) -> Planned
+    requires { ⌜ (Loaded (now seg)) × (Told (now seg) facts) ⌝ }
+    requires { ⌜ (Ranged (now seg) (length (now region)) (regsOf r)) × (length (now region) ≤ 32768) ⌝ }
+    requires { ⌜ (length (now shared) ≤ 32768) × (at ≤ length (now seg)) ⌝ }
+    ensures { λ p. ⌜ outcomeOf r p ≡ judgedBy (now (seg .entry)) (now (shared .entry)) (now (region .entry)) (regsOf r) (rowDecoded (opcode op) (now (seg .entry)) at) ⌝ }
+{
+    match op {
+        0..=31 => push(facts.floor, r, at, op as u16),
+        32..=47 => load(region, facts.floor, r, r.m, (op - 31) as u16, at),
+        48..=63 => load(region, facts.floor, r, 1, (op - 47) as u16, at),
+        96..=103 => address(region, facts.floor, r, r.m, (op - 95) as u16, at),
+        104..=111 => {
+            if few(region, r.sp, 1) {
+                return Planned::Bad(3);
+            }
+            store(region, r, r.m, (op - 103) as u16, at)
+        }
+        120..=127 => {
+            if few(region, r.sp, 1) {
+                return Planned::Bad(3);
+            }
+            give_read(
+                r,
+                at,
+                read_at(region, shared, tos(region, r), (op - 120) as u16),
+            )
+        }
+        128 => {
+            let Operand::Got { value: a, next } = operand::unsigned(seg, at) else {
+                return Planned::Bad(1);
+            };
+            push(facts.floor, r, next, a)
+        }
+        129 => {
+            let Operand::Got { value: a, next } = operand::wide(seg, at) else {
+                return Planned::Bad(1);
+            };
+            push(facts.floor, r, next, a)
+        }
+        130 => {
+            let Operand::Got { value: a, next } = operand::big(seg, at) else {
+                return Planned::Bad(1);
+            };
+            pool_offset(seg.len() / 2, facts.pool, facts.floor, r, next, a)
+        }
+        132 => {
+            let Operand::Got { value: a, next } = operand::big(seg, at) else {
+                return Planned::Bad(1);
+            };
+            address(region, facts.floor, r, r.m, a, next)
+        }
+        133 => {
+            let Operand::Got { value: a, next } = operand::big(seg, at) else {
+                return Planned::Bad(1);
+            };
+            load(region, facts.floor, r, 1, a, next)
+        }
+        134 => {
+            let Operand::Got { value: a, next } = operand::big(seg, at) else {
+                return Planned::Bad(1);
+            };
+            address(region, facts.floor, r, 1, a, next)
+        }
+        135 => {
+            let Operand::Got { value: a, next } = operand::big(seg, at) else {
+                return Planned::Bad(1);
+            };
+            load(region, facts.floor, r, r.m, a, next)
+        }
+        136 => {
+            let Operand::Got {
+                value: d,
+                next: mid,
+            } = operand::unsigned(seg, at)
+            else {
+                return Planned::Bad(1);
+            };
+            let Operand::Got { value: a, next } = operand::big(seg, mid) else {
+                return Planned::Bad(1);
+            };
+            if 127 < d {
+                return Planned::Bad(2);
+            }
+            let Link::Record(rec) = walk(region, r.m, d) else {
+                return Planned::Bad(9);
+            };
+            address(region, facts.floor, r, rec, a, next)
+        }
+        137 => {
+            let Operand::Got {
+                value: d,
+                next: mid,
+            } = operand::unsigned(seg, at)
+            else {
+                return Planned::Bad(1);
+            };
+            let Operand::Got { value: a, next } = operand::big(seg, mid) else {
+                return Planned::Bad(1);
+            };
+            if 127 < d {
+                return Planned::Bad(2);
+            }
+            let Link::Record(rec) = walk(region, r.m, d) else {
+                return Planned::Bad(9);
+            };
+            load(region, facts.floor, r, rec, a, next)
+        }
+        138 => {
+            let Operand::Got { value: a, next } = operand::signed(seg, at) else {
+                return Planned::Bad(1);
+            };
+            jump(seg.len(), r, r.sp, next, a)
+        }
+        139 => {
+            let Operand::Got { value: a, next } = operand::wide(seg, at) else {
+                return Planned::Bad(1);
+            };
+            jump(seg.len(), r, r.sp, next, a)
+        }
+        140 => {
+            if few(region, r.sp, 2) {
+                return Planned::Bad(3);
+            }
+            give_two(r, at, word::mul(nos(region, r), tos(region, r)))
+        }
+        141 => {
+            if few(region, r.sp, 2) {
+                return Planned::Bad(3);
+            }
+            quotient(r, at, nos(region, r), tos(region, r))
+        }
+        143 => {
+            if few(region, r.sp, 2) {
+                return Planned::Bad(3);
+            }
+            remainder(r, at, nos(region, r), tos(region, r))
+        }
+        144 => {
+            let Operand::Got { value: a, next } = operand::unsigned(seg, at) else {
+                return Planned::Bad(1);
+            };
+            call(r, a, r.m, next, enter(seg, facts, r.sp, a))
+        }
+        145 => {
+            let Operand::Got { value: a, next } = operand::unsigned(seg, at) else {
+                return Planned::Bad(1);
+            };
+            call(r, a, 1, next, enter(seg, facts, r.sp, a))
+        }
+        146 => {
+            let Operand::Got {
+                value: d,
+                next: mid,
+            } = operand::unsigned(seg, at)
+            else {
+                return Planned::Bad(1);
+            };
+            let Operand::Got { value: a, next } = operand::unsigned(seg, mid) else {
+                return Planned::Bad(1);
+            };
+            if 127 < d {
+                return Planned::Bad(2);
+            }
+            let Link::Record(rec) = walk(region, r.m, d) else {
+                return Planned::Bad(9);
+            };
+            call(r, a, rec, next, enter(seg, facts, r.sp, a))
+        }
+        150 => {
+            let Operand::Got { value: a, next: _ } = operand::big(seg, at) else {
+                return Planned::Bad(1);
+            };
+            give_back(seg.len(), facts, region, r, a)
+        }
+        152 => push(facts.floor, r, at, 0),
+        156 => Planned::Move(r.sp, at),
+        160 => {
+            if few(region, r.sp, 2) {
+                return Planned::Bad(3);
+            }
+            give_two(r, at, word::bit_or(nos(region, r), tos(region, r)))
+        }
+        161 => {
+            if few(region, r.sp, 2) {
+                return Planned::Bad(3);
+            }
+            give_two(r, at, word::bit_and(nos(region, r), tos(region, r)))
+        }
+        162 => {
+            if few(region, r.sp, 2) {
+                return Planned::Bad(3);
+            }
+            give_two(r, at, word::add(nos(region, r), tos(region, r)))
+        }
+        163 => {
+            if few(region, r.sp, 2) {
+                return Planned::Bad(3);
+            }
+            give_two(r, at, word::sub(nos(region, r), tos(region, r)))
+        }
+        164 => {
+            let Operand::Got { value: a, next } = operand::big(seg, at) else {
+                return Planned::Bad(1);
+            };
+            if few(region, r.sp, 1) {
+                return Planned::Bad(3);
+            }
+            store(region, r, r.m, a, next)
+        }
+        165 => {
+            let Operand::Got { value: a, next } = operand::big(seg, at) else {
+                return Planned::Bad(1);
+            };
+            if few(region, r.sp, 1) {
+                return Planned::Bad(3);
+            }
+            store(region, r, 1, a, next)
+        }
+        166 => {
+            let Operand::Got {
+                value: d,
+                next: mid,
+            } = operand::unsigned(seg, at)
+            else {
+                return Planned::Bad(1);
+            };
+            let Operand::Got { value: a, next } = operand::big(seg, mid) else {
+                return Planned::Bad(1);
+            };
+            if 127 < d {
+                return Planned::Bad(2);
+            }
+            if few(region, r.sp, 1) {
+                return Planned::Bad(3);
+            }
+            let Link::Record(rec) = walk(region, r.m, d) else {
+                return Planned::Bad(9);
+            };
+            store(region, r, rec, a, next)
+        }
+        173 => {
+            let Operand::Got { value: a, next } = operand::big(seg, at) else {
+                return Planned::Bad(1);
+            };
+            let Link::Record(rec) = walk(region, r.m, 1) else {
+                return Planned::Bad(9);
+            };
+            load(region, facts.floor, r, rec, a, next)
+        }
+        174 => {
+            let Operand::Got { value: a, next } = operand::big(seg, at) else {
+                return Planned::Bad(1);
+            };
+            let Link::Record(rec) = walk(region, r.m, 2) else {
+                return Planned::Bad(9);
+            };
+            load(region, facts.floor, r, rec, a, next)
+        }
+        176 => {
+            if few(region, r.sp, 2) {
+                return Planned::Bad(3);
+            }
+            give_two(r, at, word::equal(nos(region, r), tos(region, r)))
+        }
+        177 => {
+            if few(region, r.sp, 2) {
+                return Planned::Bad(3);
+            }
+            give_two(r, at, word::differ(nos(region, r), tos(region, r)))
+        }
+        178 => {
+            if few(region, r.sp, 2) {
+                return Planned::Bad(3);
+            }
+            give_two(r, at, word::leq(nos(region, r), tos(region, r)))
+        }
+        179 => {
+            if few(region, r.sp, 2) {
+                return Planned::Bad(3);
+            }
+            give_two(r, at, word::geq(nos(region, r), tos(region, r)))
+        }
+        180 => {
+            if few(region, r.sp, 2) {
+                return Planned::Bad(3);
+            }
+            give_two(r, at, word::leu(nos(region, r), tos(region, r)))
+        }
+        181 => {
+            if few(region, r.sp, 2) {
+                return Planned::Bad(3);
+            }
+            give_two(r, at, word::geu(nos(region, r), tos(region, r)))
+        }
+        189 => {
+            if few(region, r.sp, 2) {
+                return Planned::Bad(3);
+            }
+            Planned::Swap(at, nos(region, r), tos(region, r))
+        }
+        196 => {
+            if few(region, r.sp, 2) {
+                return Planned::Bad(3);
+            }
+            store_at(region, r, at)
+        }
+        203 => {
+            if few(region, r.sp, 3) {
+                return Planned::Bad(3);
+            }
+            check_range(region, r, at)
+        }
+        212 => {
+            let Operand::Got { value: a, next } = operand::signed(seg, at) else {
+                return Planned::Bad(1);
+            };
+            if few(region, r.sp, 1) {
+                return Planned::Bad(3);
+            }
+            branch(region, seg.len(), r, 0, next, a)
+        }
+        213 => {
+            let Operand::Got { value: a, next } = operand::wide(seg, at) else {
+                return Planned::Bad(1);
+            };
+            if few(region, r.sp, 1) {
+                return Planned::Bad(3);
+            }
+            branch(region, seg.len(), r, 0, next, a)
+        }
+        224 => {
+            if few(region, r.sp, 1) {
+                return Planned::Bad(3);
+            }
+            give_one(r, at, word::mag(tos(region, r)))
+        }
+        225 => {
+            if few(region, r.sp, 1) {
+                return Planned::Bad(3);
+            }
+            give_one(r, at, word::neg(tos(region, r)))
+        }
+        226 => {
+            if few(region, r.sp, 1) {
+                return Planned::Bad(3);
+            }
+            push(facts.floor, r, at, tos(region, r))
+        }
+        229 => {
+            if few(region, r.sp, 1) {
+                return Planned::Bad(3);
+            }
+            give_one(r, at, word::bit_not(tos(region, r)))
+        }
+        230 => {
+            let Operand::Got { value: a, next } = operand::big(seg, at) else {
+                return Planned::Bad(1);
+            };
+            if few(region, r.sp, 1) {
+                return Planned::Bad(3);
+            }
+            give_read(r, next, read_at(region, shared, tos(region, r), a))
+        }
+        237 => {
+            if few(region, r.sp, 1) {
+                return Planned::Bad(3);
+            }
+            give_one(r, at, word::inc(tos(region, r)))
+        }
+        238 => {
+            if few(region, r.sp, 1) {
+                return Planned::Bad(3);
+            }
+            give_one(r, at, word::dec(tos(region, r)))
+        }
+        239 => {
+            let Operand::Got { value: a, next } = operand::unsigned(seg, at) else {
+                return Planned::Bad(1);
+            };
+            let Link::Record(rec) = walk(region, r.m, 1) else {
+                return Planned::Bad(9);
+            };
+            call(r, a, rec, next, enter(seg, facts, r.sp, a))
+        }
+        240 => {
+            let Operand::Got { value: a, next } = operand::unsigned(seg, at) else {
+                return Planned::Bad(1);
+            };
+            let Link::Record(rec) = walk(region, r.m, 2) else {
+                return Planned::Bad(9);
+            };
+            call(r, a, rec, next, enter(seg, facts, r.sp, a))
+        }
+        241 => {
+            let Operand::Got { value: a, next } = operand::signed(seg, at) else {
+                return Planned::Bad(1);
+            };
+            if few(region, r.sp, 1) {
+                return Planned::Bad(3);
+            }
+            branch(region, seg.len(), r, 1, next, a)
+        }
+        _ => Planned::Bad(2),
+    }
+}
+
+// The fault of a first byte that is not decoded.
+fn fault_number(d: Decode) -> u8
+    ensures { λ n. ⌜ n ≡ numberOf d ⌝ }
+{
+    match d {
+        Decode::Decoded(_) => 0,
+        Decode::Outside => 1,
+        Decode::Uncarried => 2,
+    }
+}
+
+// What the next step does: the first byte is judged for 1 and 2, then its operands are fetched and the rest is judged in order.
+pub fn judge(
+    seg: &[u8],
+    t: &[u32; 256],
+    facts: Facts,
+    region: &[u16],
+    shared: &[u16],
+    r: Regs,
+) -> Planned
+    requires { ⌜ (Loaded (now seg)) × ((Told (now seg) facts) × (Agrees (now t))) ⌝ }
+    requires { ⌜ (Ranged (now seg) (length (now region)) (regsOf r)) × (length (now region) ≤ 32768) ⌝ }
+    requires { ⌜ length (now shared) ≤ 32768 ⌝ }
+    ensures { λ p. ⌜ outcomeOf r p ≡ Step·judge (now (seg .entry)) (now (shared .entry)) (now (region .entry)) (regsOf r) ⌝ }
+{
+    let first = code::decoded(seg, t, r.counter);
+    let Decode::Decoded(op) = first else {
+        return Planned::Bad(fault_number(first));
+    };
+    act(seg, facts, region, shared, r, op, r.counter + 1)
+}
