@@ -1,0 +1,35 @@
+// The step and the turn of one session, on a memory that holds the shared words and the session's region.
+// Above: `session` and the bench; below: `judge`, which only reads, and `commit`, which only writes.
+mod steps;
+mod turns;
+
+use plan::Regs;
+pub use turns::facts_of;
+pub use turns::is_ready;
+pub use turns::turn;
+
+// The three kinds of session; a fault has its number and its place.
+pub enum Kind {
+    Ready,
+    Finished,
+    Faulted(u8, usize),
+}
+
+// What a step changes besides words: the kind and the registers.
+pub struct Cpu {
+    pub kind: Kind,
+    pub regs: Regs,
+}
+
+// A session after a turn, and the steps done.
+pub struct Turned {
+    pub cpu: Cpu,
+    pub done: usize,
+}
+
+// Stack pointer, record pointer, counter and routine after a step; a fault; or the end.
+pub enum Stepped {
+    Went(usize, usize, usize, usize),
+    Stuck(u8),
+    Ended,
+}

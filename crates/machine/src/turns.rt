@@ -1,0 +1,160 @@
+// A turn: up to k steps, stopping when the session is no longer ready.
+// Above: `session` and the bench; below: steps, and what a segment says, read once a turn.
+use crate::Cpu;
+use crate::Kind;
+use crate::Stepped;
+use crate::Turned;
+use crate::steps::step;
+use plan::Facts;
+use plan::Regs;
+ghost use mathlib.Core.Path.{_≡_};
+ghost use Prim.Native.Nat.{_-_, _≤_};
+ghost use lib.ListN.{length};
+ghost use Rattle.pmachine.specs.State.{ready};
+ghost use Rattle.pmachine.specs.Run.{isReady};
+ghost use Rattle.pmachine.specs.Sound.{Loaded, Ranged};
+ghost use Rattle.plan.specs.Answer.{regsOf};
+ghost use Rattle.plan.specs.Told.{Told, sexOf};
+ghost use Rattle.machine.specs.Memory.{kindOf, Placed, RanTo};
+
+// What a segment says: sex, dictionary, number of routines, pool and 6+G.
+pub fn facts_of(seg: &[u8]) -> Facts
+    ensures { λ f. ⌜ Told (now (seg .entry)) f ⌝ }
+{
+    Facts {
+        sex: sex_number(segment::is_least(seg)),
+        dict: segment::dict_of(seg) as usize,
+        count: segment::count_of(seg) as usize,
+        pool: segment::pool_of(seg) as usize,
+        floor: 6 + segment::datasize_of(seg, 1) as usize,
+    }
+}
+
+fn sex_number(least: bool) -> usize
+    ensures { λ n. ⌜ n ≡ sexOf least ⌝ }
+{
+    if least { 0 } else { 1 }
+}
+
+pub fn is_ready(kind: Kind) -> bool
+    ensures { λ b. ⌜ b ≡ isReady (kindOf kind) ⌝ }
+{
+    match kind {
+        Kind::Ready => true,
+        Kind::Finished => false,
+        Kind::Faulted(_, _) => false,
+    }
+}
+
+// The steps of a ready session. The table is lent here, once a turn; the registers are locals of one width.
+fn run(
+    mem: &mut [u16],
+    at: usize,
+    end: usize,
+    s: usize,
+    seg: &[u8],
+    facts: Facts,
+    start: Regs,
+    k: usize,
+) -> Turned
+    requires { ⌜ Placed (length (now mem)) at end s ⌝ }
+    requires { ⌜ (Loaded (now seg)) × (Told (now seg) facts) ⌝ }
+    requires { ⌜ Ranged (now seg) (end - at) (regsOf start) ⌝ }
+    ensures { λ t. ⌜ RanTo (now (seg .entry)) (now (mem .entry)) s at end k (regsOf start) ready t (now (mem .exit)) ⌝ }
+{
+    let mut sp = start.sp;
+    let mut m = start.m;
+    let mut counter = start.counter;
+    let mut routine = start.routine;
+    let mut done: usize = 0;
+    while done < k {
+        match step(
+            mem,
+            at,
+            end,
+            s,
+            seg,
+            &code::TABLE,
+            facts,
+            Regs {
+                sp,
+                m,
+                counter,
+                routine,
+            },
+        ) {
+            Stepped::Went(a, b, c, d) => {
+                sp = a;
+                m = b;
+                counter = c;
+                routine = d;
+                done += 1;
+            }
+            Stepped::Stuck(n) => {
+                let cpu = Cpu {
+                    kind: Kind::Faulted(n, counter),
+                    regs: Regs {
+                        sp,
+                        m,
+                        counter,
+                        routine,
+                    },
+                };
+                return Turned {
+                    cpu,
+                    done: done + 1,
+                };
+            }
+            Stepped::Ended => {
+                let cpu = Cpu {
+                    kind: Kind::Finished,
+                    regs: Regs {
+                        sp,
+                        m,
+                        counter,
+                        routine,
+                    },
+                };
+                return Turned {
+                    cpu,
+                    done: done + 1,
+                };
+            }
+        }
+    }
+    Turned {
+        cpu: Cpu {
+            kind: Kind::Ready,
+            regs: Regs {
+                sp,
+                m,
+                counter,
+                routine,
+            },
+        },
+        done,
+    }
+}
+
+// A turn of k steps, or fewer where the session is no longer ready. The shared words are the first s of the memory, the region is at..end.
+pub fn turn(
+    mem: &mut [u16],
+    at: usize,
+    end: usize,
+    s: usize,
+    seg: &[u8],
+    q: Cpu,
+    k: usize,
+) -> Turned
+    requires { ⌜ Placed (length (now mem)) at end s ⌝ }
+    requires { ⌜ Loaded (now seg) ⌝ }
+    requires { ⌜ Ranged (now seg) (end - at) (regsOf (q .regs)) ⌝ }
+    ensures { λ t. ⌜ RanTo (now (seg .entry)) (now (mem .entry)) s at end k (regsOf (q .regs)) (kindOf (q .kind)) t (now (mem .exit)) ⌝ }
+{
+    let kind = q.kind;
+    if is_ready(kind) {
+        let regs = q.regs;
+        return run(mem, at, end, s, seg, facts_of(seg), regs, k);
+    }
+    Turned { cpu: q, done: 0 }
+}

@@ -1,0 +1,103 @@
+// A session on a loaded segment: which registers are sound, how it starts, and its turn in a memory that holds all regions.
+// Above: the bench, which knows of segments and the machine by this crate alone; below: `machine` and `segment`.
+use machine::Cpu;
+use machine::Kind;
+use machine::Turned;
+use plan::Regs;
+use word::at_most;
+use word::both;
+use word::ends_by;
+ghost use mathlib.Core.Path.{_≡_};
+ghost use mathlib.Core.Bool.{true};
+ghost use Prim.Native.Nat.{_-_, _≤_};
+ghost use lib.ListN.{length};
+ghost use Rattle.segment.specs.Judge.{judged};
+ghost use Rattle.segment.specs.declared.Verdict.the-variants.{Accepted};
+ghost use Rattle.session.specs.Session.{noCpu, startOf, kindOk, cpuOk, RanTo};
+
+// The registers of a record that is not used.
+pub fn no_cpu() -> Cpu
+    ensures { λ r. ⌜ r ≡ noCpu ⌝ }
+{
+    Cpu {
+        kind: Kind::Ready,
+        regs: Regs {
+            sp: 0,
+            m: 0,
+            counter: 0,
+            routine: 0,
+        },
+    }
+}
+
+// The registers of a session that has just been opened, with len words.
+pub fn start_cpu(code: &[u8], len: usize) -> Cpu
+    ensures { λ r. ⌜ r ≡ startOf (now (code .entry)) len ⌝ }
+{
+    let first = segment::routine_of(code, 1);
+    Cpu {
+        kind: Kind::Ready,
+        regs: Regs {
+            sp: len,
+            m: 1,
+            counter: first.start as usize,
+            routine: 1,
+        },
+    }
+}
+
+fn kind_ok(code: &[u8], k: Kind) -> bool
+    ensures { λ r. ⌜ r ≡ kindOk (now (code .entry)) k ⌝ }
+{
+    match k {
+        Kind::Ready => true,
+        Kind::Finished => true,
+        Kind::Faulted(f, p) => both(
+            at_most(1, f as usize),
+            both(
+                at_most(f as usize, 10),
+                both(at_most(22, p), at_most(p, code.len())),
+            ),
+        ),
+    }
+}
+
+// Whether these are registers of a sound session with len words. Any numbers may stand in them, so no sum is made of them here.
+pub fn cpu_ok(code: &[u8], len: usize, c: Cpu) -> bool
+    ensures { λ r. ⌜ r ≡ cpuOk (now (code .entry)) len c ⌝ }
+{
+    let first = segment::routine_of(code, 1);
+    let low = 6 + first.datasize as usize;
+    let head = segment::head(code);
+    let sp = c.regs.sp;
+    let m = c.regs.m;
+    let counter = c.regs.counter;
+    let routine = c.regs.routine;
+    let k = c.kind;
+    let g = both(
+        at_most(routine, head.count as usize),
+        kind_ok(code, k),
+    );
+    let f = both(at_most(counter, code.len()), both(at_most(1, routine), g));
+    let e = both(ends_by(m, 5, len), both(at_most(22, counter), f));
+    let d = both(at_most(sp, len), both(at_most(1, m), e));
+    both(at_most(low, len), both(at_most(low, sp), d))
+}
+
+// Up to k steps of the session whose region is the words from base up to end.
+pub fn run(
+    code: &[u8],
+    memory: &mut [u16],
+    s: usize,
+    base: usize,
+    end: usize,
+    cpu: Cpu,
+    k: usize,
+) -> Turned
+    requires { ⌜ judged (now code) ≡ Accepted ⌝ }
+    requires { ⌜ cpuOk (now code) (end - base) cpu ≡ true ⌝ }
+    requires { ⌜ (end - base ≤ 32768) × (s ≤ 32768) × (s ≤ base) × (base ≤ end) × (end ≤ length (now memory)) ⌝ }
+    ensures { λ r. ⌜ RanTo (now (code .entry)) (now (memory .entry)) s base end k cpu r (now (memory .exit)) ⌝ }
+{
+    machine::turn(memory, base, end, s, code, cpu, k)
+}
