@@ -1,0 +1,1572 @@
+//! A seeded generator of cases near their limits, and the coverage they reach.
+//! Nothing here decides what is right; it only makes inputs, and lists which
+//! outcomes document 01 makes possible (`possible_faults`,
+//! `possible_refusals`) so that a missing one is seen.
+
+use crate::bench::{self, Bench, Record};
+use crate::machine::{self, Form, Kind, Op, Session};
+use crate::segment::{self, Refusal, Segment, Sex};
+use std::collections::BTreeMap;
+
+// ---------------------------------------------------------------- randomness
+
+/// splitmix64: the same seed gives the same cases everywhere.
+#[derive(Clone, Debug)]
+pub struct Rng(pub u64);
+
+impl Rng {
+    pub fn next(&mut self) -> u64 {
+        self.0 = self.0.wrapping_add(0x9E37_79B9_7F4A_7C15);
+        let mut z = self.0;
+        z = (z ^ (z >> 30)).wrapping_mul(0xBF58_476D_1CE4_E5B9);
+        z = (z ^ (z >> 27)).wrapping_mul(0x94D0_49BB_1331_11EB);
+        z ^ (z >> 31)
+    }
+
+    /// 0..=most
+    pub fn up_to(&mut self, most: u64) -> u64 {
+        match most.checked_add(1) {
+            Some(count) => self.next() % count,
+            None => self.next(),
+        }
+    }
+
+    /// low..=high (low if the range is empty)
+    pub fn between(&mut self, low: i64, high: i64) -> i64 {
+        if high <= low {
+            return low;
+        }
+        low + self.up_to((high - low) as u64) as i64
+    }
+
+    /// True `times` out of `of`.
+    pub fn chance(&mut self, times: u64, of: u64) -> bool {
+        self.up_to(of.saturating_sub(1)) < times
+    }
+
+    pub fn pick<T: Copy>(&mut self, from: &[T], otherwise: T) -> T {
+        let index = self.up_to((from.len() as u64).saturating_sub(1)) as usize;
+        from.get(index).copied().unwrap_or(otherwise)
+    }
+
+    /// One of the numbers that lie in low..=high, or a random one there.
+    pub fn pick_in(&mut self, from: &[i64], low: i64, high: i64) -> i64 {
+        let fit: Vec<i64> = from.iter().copied().filter(|x| (low..=high).contains(x)).collect();
+        let random = self.between(low, high);
+        if self.chance(1, 8) {
+            return random;
+        }
+        self.pick(&fit, random)
+    }
+}
+
+// -------------------------------------------------------------------- cases
+
+/// A segment to judge and to turn into an output of some length.
+#[derive(Clone, Debug, PartialEq, Eq)]
+pub struct SegmentCase {
+    pub bytes: Vec<u8>,
+    pub output_length: usize,
+}
+
+/// A session on its region, to be run for k steps (1 for a single step).
+#[derive(Clone, Debug, PartialEq, Eq)]
+pub struct RunCase {
+    pub segment: Vec<u8>,
+    pub shared: Vec<u16>,
+    pub region: Vec<u16>,
+    pub session: Session,
+    pub k: u64,
+}
+
+/// A bench with what is lent.
+#[derive(Clone, Debug, PartialEq, Eq)]
+pub struct BenchCase {
+    pub bench: Bench,
+    pub memory: Vec<u16>,
+    pub store: Vec<u8>,
+}
+
+/// An entry asked for.
+#[derive(Clone, Copy, Debug, PartialEq, Eq)]
+pub enum Call {
+    New { shared: u64, words: u64 },
+    Load { slot: u64, start: u64, length: u64 },
+    Open { slot: u64, length: u64 },
+    Turn { session: u64, k: u64 },
+    Close { session: u64 },
+}
+
+/// Entries one after another on one bench.
+#[derive(Clone, Debug, PartialEq, Eq)]
+pub struct SequenceCase {
+    pub start: BenchCase,
+    pub calls: Vec<Call>,
+}
+
+/// Ask for one entry.  The number answered is the session opened, the steps
+/// done, or 0.  A `New` puts a new bench in the place of the old one.
+pub fn ask(case: &mut BenchCase, call: Call) -> Result<u64, Refusal> {
+    let BenchCase { bench, memory, store } = case;
+    match call {
+        Call::New { shared, words } => {
+            *bench = bench::new_bench(shared, words)?;
+            Ok(0)
+        }
+        Call::Load { slot, start, length } => {
+            bench::load(bench, memory, store, slot, start, length).map(|()| 0)
+        }
+        Call::Open { slot, length } => bench::open(bench, memory, store, slot, length),
+        Call::Turn { session, k } => bench::turn(bench, memory, store, session, k),
+        Call::Close { session } => bench::close(bench, memory, store, session).map(|()| 0),
+    }
+}
+
+// ----------------------------------------------------------------- segments
+
+/// The small segment of document 01.
+pub const SMALL: [u8; 32] = [
+    0x0B, 0x00, 0x00, 0x00, 0x50, 0x4F, 0x4E, 0x44, 0x20, 0x20, 0x20, 0x20, 0x01, 0x00, 0x00, 0x00,
+    0x02, 0x00, 0x00, 0x00, 0x00, 0x00, 0x01, 0x00, 0x0E, 0x00, 0x1E, 0x00, 0x00, 0x00, 0x05, 0x07,
+];
+
+/// Write a word in a sex; nothing outside the bytes.
+pub fn put_word(bytes: &mut [u8], sex: Sex, number: i64, value: i64) {
+    let pair = match sex {
+        Sex::LeastFirst => (value as u16).to_le_bytes(),
+        Sex::MostFirst => (value as u16).to_be_bytes(),
+    };
+    let Ok(at) = usize::try_from(2 * number) else { return };
+    if let Some(place) = bytes.get_mut(at..at + 2) {
+        place.copy_from_slice(&pair);
+    }
+}
+
+/// What a drafted segment should be like.
+#[derive(Clone, Copy, Debug)]
+pub struct Wish {
+    pub most_words: i64,
+    pub most_routines: i64,
+    pub most_data: i64,
+    /// Fill the code with instructions (else with random bytes).
+    pub program: bool,
+}
+
+pub const ORDINARY: Wish =
+    Wish { most_words: 60, most_routines: 5, most_data: 9, program: true };
+
+/// A segment drafted to pass checks 1 to 8; it may miss.
+fn draft(rng: &mut Rng, wish: Wish) -> Vec<u8> {
+    let words = rng.pick_in(&[16, 17, 18, 24, 40, wish.most_words], 16, wish.most_words);
+    let most_routines = ((words - 12) / 3).clamp(1, wish.most_routines);
+    let count = rng.between(1, most_routines);
+    let sex = if rng.chance(1, 2) { Sex::LeastFirst } else { Sex::MostFirst };
+    let mut bytes: Vec<u8> = (0..2 * words).map(|_| rng.next() as u8).collect();
+
+    let last_start = words - 1 - count;
+    let dictionary = rng.pick_in(&[11, 11, last_start], 11, last_start);
+    let pool = if rng.chance(1, 2) { 0 } else { rng.pick_in(&[11, words - 1], 11, words - 1) };
+    let mut used: Vec<i64> = (dictionary..=dictionary + count).collect();
+    let mut entries = Vec::new();
+    for _ in 0..count {
+        let careless = rng.chance(1, 12);
+        let mut entry = rng.between(12, words - 2);
+        for _ in 0..60 {
+            if careless || !(used.contains(&entry) || used.contains(&(entry - 1))) {
+                break;
+            }
+            entry = rng.between(12, words - 2);
+        }
+        used.extend([entry - 1, entry]);
+        entries.push(entry);
+    }
+
+    // Routine 1's DATASIZE is G; it is kept small, so that sessions open.
+    let data_sizes: Vec<i64> = (1..=count)
+        .map(|number| match rng.up_to(19) {
+            0 if number > 1 => 32_767,
+            1 if number > 1 => rng.between(0, 32_767),
+            _ => rng.between(0, wish.most_data),
+        })
+        .collect();
+    if wish.program {
+        fill_with_program(rng, &mut bytes, &used, &entries, &data_sizes, pool != 0);
+    }
+    if let Some(flag) = bytes.get_mut(12..14) {
+        flag.copy_from_slice(if sex == Sex::LeastFirst { &[1, 0] } else { &[0, 1] });
+    }
+    put_word(&mut bytes, sex, 0, dictionary);
+    put_word(&mut bytes, sex, 1, 0);
+    put_word(&mut bytes, sex, 7, pool);
+    for (entry, data_size) in entries.iter().zip(&data_sizes) {
+        let exit_ic = rng.pick_in(&[22, 2 * words - 1], 22, 2 * words - 1);
+        put_word(&mut bytes, sex, *entry, *data_size);
+        put_word(&mut bytes, sex, *entry - 1, exit_ic);
+    }
+    put_word(&mut bytes, sex, dictionary, count);
+    for (entry, number) in entries.iter().zip(1..) {
+        put_word(&mut bytes, sex, dictionary + number, *entry);
+    }
+    bytes
+}
+
+/// Each run of bytes that no word position uses gets code: either statements
+/// that leave the stack as it was, ended by a jump back or a return, or a
+/// loose stream of instructions.
+fn fill_with_program(
+    rng: &mut Rng,
+    bytes: &mut [u8],
+    used: &[i64],
+    entries: &[i64],
+    data_sizes: &[i64],
+    pool: bool,
+) {
+    let count = entries.len() as i64;
+    let globals = data_sizes.first().copied().unwrap_or(0);
+    let steady = rng.chance(4, 5);
+    let mut at = 22;
+    while at < bytes.len() {
+        let run = (at..bytes.len()).take_while(|byte| !used.contains(&(*byte as i64 / 2))).count();
+        let routine = entries.iter().position(|entry| 2 * (entry + 1) == at as i64);
+        let number = routine.map_or(count, |index| index as i64 + 1);
+        let locals = routine.and_then(|index| data_sizes.get(index)).copied().unwrap_or(0);
+        let writer = Writer { number, count, globals, locals, pool };
+        let code = if steady {
+            writer.routine(rng, run)
+        } else {
+            let mut code = Vec::new();
+            while code.len() < run {
+                code.extend(ordinary_instruction(rng, count));
+            }
+            code
+        };
+        for (place, byte) in bytes.iter_mut().skip(at).take(run).zip(code) {
+            *place = byte;
+        }
+        at += run.max(1);
+    }
+}
+
+/// Writes statements for one routine.
+struct Writer {
+    number: i64,
+    count: i64,
+    globals: i64,
+    locals: i64,
+    pool: bool,
+}
+
+impl Writer {
+    /// Statements as long as they fit; then a jump back to the first (routine
+    /// 1) or a return that drops the locals.
+    fn routine(&self, rng: &mut Rng, room: usize) -> Vec<u8> {
+        let mut code = Vec::new();
+        let mut misfits = 0;
+        while misfits < 4 {
+            let statement = self.statement(rng, 2);
+            if !statement.is_empty() && code.len() + statement.len() + 3 <= room {
+                code.extend(statement);
+            } else {
+                misfits += 1;
+            }
+        }
+        let back = -(code.len() as i64);
+        if self.number > 1 || rng.chance(1, 8) {
+            code.push(150);
+            push_big(rng, &mut code, self.locals);
+        } else if back >= -126 {
+            code.extend([138, (back - 2) as i8 as u8]);
+        } else {
+            code.push(139);
+            code.extend(((back - 3) as i16).to_le_bytes());
+        }
+        code
+    }
+
+    /// Code that leaves the stack as it was.
+    fn statement(&self, rng: &mut Rng, depth: u64) -> Vec<u8> {
+        let mut code = Vec::new();
+        match rng.up_to(9) {
+            0..=2 => {
+                code.extend(self.expression(rng, depth));
+                code.extend(self.store(rng));
+            }
+            3 => {
+                // condition; jump over another statement
+                code.extend(self.expression(rng, depth));
+                let inner = self.statement(rng, depth / 2);
+                match rng.up_to(2) {
+                    0 => code.extend([212, inner.len() as u8]),
+                    1 => code.extend([241, inner.len() as u8]),
+                    _ => code.extend([213, inner.len() as u8, 0]),
+                }
+                code.extend(inner);
+            }
+            4 | 5 => {
+                // a call of a higher routine, so that calls end
+                if self.number < self.count {
+                    let called = rng.between(self.number + 1, self.count) as u8;
+                    match rng.up_to(3) {
+                        0 => code.extend([144, called]),
+                        1 => code.extend([145, called]),
+                        2 => code.extend([146, 0, called]),
+                        _ if self.number > 1 => code.extend([239, called]),
+                        _ => code.push(156),
+                    }
+                }
+            }
+            6 => {
+                // store through an address
+                let global = self.global(rng);
+                code.push(134);
+                push_big(rng, &mut code, global);
+                code.extend(self.expression(rng, depth / 2));
+                code.push(196);
+            }
+            7 => {
+                code.extend(self.expression(rng, depth));
+                code.push(226);
+                code.extend(self.store(rng));
+                code.extend(self.store(rng));
+            }
+            8 => {
+                code.extend(self.expression(rng, depth / 2));
+                code.extend(self.expression(rng, depth / 2));
+                code.push(189);
+                code.extend(self.store(rng));
+                code.extend(self.store(rng));
+            }
+            _ => code.push(156),
+        }
+        code
+    }
+
+    fn global(&self, rng: &mut Rng) -> i64 {
+        rng.between(1, self.globals.max(1))
+    }
+
+    fn local(&self, rng: &mut Rng) -> i64 {
+        rng.between(1, self.locals.clamp(1, 40))
+    }
+
+    fn store(&self, rng: &mut Rng) -> Vec<u8> {
+        let mut code = Vec::new();
+        let (global, local) = (self.global(rng), self.local(rng));
+        match rng.up_to(4) {
+            0 | 1 => {
+                code.push(165);
+                push_big(rng, &mut code, global);
+            }
+            2 if local <= 8 => code.push(103 + local as u8),
+            3 => {
+                code.extend([166, 0]);
+                push_big(rng, &mut code, local);
+            }
+            _ => {
+                code.push(164);
+                push_big(rng, &mut code, local);
+            }
+        }
+        code
+    }
+
+    /// Code that pushes one word.
+    fn expression(&self, rng: &mut Rng, depth: u64) -> Vec<u8> {
+        let mut code = Vec::new();
+        let (global, local) = (self.global(rng), self.local(rng));
+        if depth > 0 && rng.chance(3, 5) {
+            match rng.up_to(5) {
+                0 => {
+                    code.extend(self.expression(rng, depth - 1));
+                    code.push(rng.pick(&[224, 225, 229, 237, 238], 229));
+                }
+                1 => {
+                    // a division by a constant other than 0
+                    code.extend(self.expression(rng, depth - 1));
+                    code.push(rng.between(1, 31) as u8);
+                    if rng.chance(1, 3) {
+                        code.push(225);
+                    }
+                    code.push(rng.pick(&[141, 143], 141));
+                }
+                2 => {
+                    code.extend([rng.between(4, 8) as u8, 4, 8, 203]);
+                }
+                _ => {
+                    code.extend(self.expression(rng, depth - 1));
+                    code.extend(self.expression(rng, depth - 1));
+                    code.push(rng.pick(
+                        &[140, 160, 161, 162, 163, 176, 177, 178, 179, 180, 181],
+                        162,
+                    ));
+                }
+            }
+            return code;
+        }
+        match rng.up_to(13) {
+            0 => code.push(rng.up_to(31) as u8),
+            1 => code.extend([128, rng.next() as u8]),
+            2 => {
+                code.push(129);
+                code.extend((rng.next() as u16).to_le_bytes());
+            }
+            3 if self.pool => code.extend([130, 0]),
+            4 => code.push(152),
+            5 if global <= 16 => code.push(47 + global as u8),
+            6 if local <= 16 => code.push(31 + local as u8),
+            7 => {
+                code.push(rng.pick(&[133, 134], 133));
+                push_big(rng, &mut code, global);
+            }
+            8 => {
+                code.push(rng.pick(&[132, 135], 132));
+                push_big(rng, &mut code, local);
+            }
+            9 => {
+                code.extend([rng.pick(&[136, 137], 136), rng.up_to(u64::from(self.number > 1)) as u8]);
+                push_big(rng, &mut code, local);
+            }
+            10 if self.number > 1 => {
+                code.push(if rng.chance(1, 8) { 174 } else { 173 });
+                push_big(rng, &mut code, global);
+            }
+            11 => {
+                code.push(134);
+                push_big(rng, &mut code, global);
+                code.push(rng.between(120, 123) as u8);
+            }
+            12 => {
+                code.push(134);
+                push_big(rng, &mut code, global);
+                code.push(230);
+                push_big(rng, &mut code, 1);
+            }
+            _ => code.push(if local <= 8 { 95 + local as u8 } else { 152 }),
+        }
+        code
+    }
+}
+
+/// An instruction as a program might have it: mostly carried, with mild
+/// operands, so that runs last.
+fn ordinary_instruction(rng: &mut Rng, count: i64) -> Vec<u8> {
+    let first = loop {
+        let byte = match rng.up_to(9) {
+            0..=2 => rng.up_to(63) as u8,
+            3 => rng.between(96, 127) as u8,
+            4 => rng.pick(&[144, 145, 146, 239, 240, 150, 150, 226, 226, 189], 156),
+            5 => rng.pick(&[138, 212, 241, 139, 213], 156),
+            6 => rng.pick(&[164, 165, 166, 133, 135, 137, 132, 134, 136, 173], 156),
+            7 => rng.pick(&[160, 161, 162, 163, 140, 141, 143, 176, 178, 180], 156),
+            _ => rng.next() as u8,
+        };
+        if machine::instruction(byte).is_some() || rng.chance(1, 40) {
+            break byte;
+        }
+    };
+    let mut bytes = vec![first];
+    let Some(instruction) = machine::instruction(first) else { return bytes };
+    let routine = rng.between(1, count) as u8;
+    let offset = rng.between(0, 12);
+    match (instruction.form, instruction.op) {
+        (Form::Nothing, _) => {}
+        (Form::Ub, Op::PushValue) => bytes.push(rng.next() as u8),
+        (Form::Ub, _) => bytes.push(routine),
+        (Form::Sb, _) => bytes.push(rng.between(-14, 10) as i8 as u8),
+        (Form::W, Op::PushValue) => bytes.extend((rng.next() as u16).to_le_bytes()),
+        (Form::W, _) => bytes.extend((rng.between(-20, 16) as i16).to_le_bytes()),
+        (Form::B, Op::Return) => bytes.push(rng.pick(&[0, 0, 1, 2], 0)),
+        (Form::B, _) => push_big(rng, &mut bytes, offset),
+        (Form::DbB, _) => {
+            bytes.push(rng.pick(&[0, 0, 1, 1, 2], 0));
+            push_big(rng, &mut bytes, offset);
+        }
+        (Form::DbUb, _) => bytes.extend([rng.pick(&[0, 0, 1, 1, 2], 0), routine]),
+    }
+    bytes
+}
+
+/// A B operand, in one byte or in two.
+fn push_big(rng: &mut Rng, bytes: &mut Vec<u8>, value: i64) {
+    let value = value.clamp(0, 32_767) as u16;
+    if value < 128 && !rng.chance(1, 6) {
+        bytes.push(value as u8);
+    } else {
+        bytes.extend((value | 0x8000).to_be_bytes());
+    }
+}
+
+/// A segment that passes checks 1 to 8.
+pub fn valid_segment(rng: &mut Rng, wish: Wish) -> Vec<u8> {
+    for _ in 0..200 {
+        let bytes = draft(rng, wish);
+        if Segment::judge(&bytes).is_ok() {
+            return bytes;
+        }
+    }
+    SMALL.to_vec()
+}
+
+/// A valid segment with one number put at or beside a limit of checks 1 to 8.
+pub fn nearly_valid_segment(rng: &mut Rng) -> Vec<u8> {
+    let wish = if rng.chance(1, 60) {
+        Wish { most_words: 900, most_routines: 255, ..ORDINARY }
+    } else {
+        ORDINARY
+    };
+    let mut bytes = valid_segment(rng, wish);
+    let Ok(segment) = Segment::judge(&bytes) else { return bytes };
+    let (sex, words, count) = (segment.sex, i64::from(segment.words), i64::from(segment.count()));
+    let dictionary = i64::from(segment.dictionary);
+    let entries: Vec<i64> = segment.routines.iter().map(|r| i64::from(r.entry)).collect();
+    let number = rng.between(1, count);
+    let entry = entries.get(number as usize - 1).copied().unwrap_or(12);
+    match rng.up_to(9) {
+        0 => {
+            // length
+            match rng.up_to(5) {
+                0 => drop(bytes.pop()),
+                1 => bytes.push(0),
+                2 => bytes.truncate(30),
+                3 => bytes.truncate(31),
+                4 => bytes.truncate(rng.up_to(40) as usize),
+                _ => bytes.truncate(bytes.len().saturating_sub(2)),
+            }
+        }
+        1 => {
+            let flag = rng.pick(&[[0, 0], [1, 1], [2, 0], [0, 2], [1, 0], [0, 1]], [255, 0]);
+            if let Some(place) = bytes.get_mut(12..14) {
+                place.copy_from_slice(&flag);
+            }
+        }
+        2 => put_word(&mut bytes, sex, 1, rng.pick(&[0, 1, 256, 65_535], 1)),
+        3 => {
+            let pool = rng.pick(&[0, 1, 10, 11, words - 1, words, words + 1, 65_535], 0);
+            put_word(&mut bytes, sex, 7, pool);
+        }
+        4 => {
+            let at = rng.pick(&[0, 10, 11, words - 2, words - 1, words, 32_768, 65_535], 0);
+            put_word(&mut bytes, sex, 0, at);
+        }
+        5 => {
+            let room = words - 1 - dictionary;
+            let n = rng.pick(&[0, 1, room, room + 1, 255, 256, 257, 65_535], 0);
+            put_word(&mut bytes, sex, dictionary, n);
+        }
+        6 => {
+            let at = rng.pick(&[0, 1, 11, 12, words - 3, words - 2, words - 1, words, 65_535], 0);
+            put_word(&mut bytes, sex, dictionary + number, at);
+        }
+        7 => {
+            let data = rng.pick(&[0, 32_767, 32_768, 32_769, 65_535], 32_768);
+            put_word(&mut bytes, sex, entry, data);
+        }
+        8 => {
+            let at = rng.pick(&[0, 21, 22, 2 * words - 1, 2 * words, 65_535], 0);
+            put_word(&mut bytes, sex, entry - 1, at);
+        }
+        _ => {
+            // two routines damaged: the lower number is told
+            for number in [number, rng.between(1, count)] {
+                let entry = entries.get(number as usize - 1).copied().unwrap_or(12);
+                match rng.up_to(2) {
+                    0 => put_word(&mut bytes, sex, dictionary + number, 11),
+                    1 => put_word(&mut bytes, sex, entry, 40_000),
+                    _ => put_word(&mut bytes, sex, entry - 1, 21),
+                }
+            }
+        }
+    }
+    bytes
+}
+
+/// A segment with random damage.
+pub fn damaged_segment(rng: &mut Rng) -> Vec<u8> {
+    let mut bytes = valid_segment(rng, ORDINARY);
+    for _ in 0..=rng.up_to(4) {
+        let at = rng.up_to((bytes.len() as u64).saturating_sub(1)) as usize;
+        let new = rng.next() as u8;
+        if let Some(byte) = bytes.get_mut(at) {
+            *byte = new;
+        }
+    }
+    if rng.chance(1, 10) {
+        bytes.truncate(rng.up_to(bytes.len() as u64) as usize);
+    }
+    bytes
+}
+
+/// Segments of all sorts, to judge and to turn.
+pub fn segment_case(rng: &mut Rng) -> SegmentCase {
+    let bytes = match rng.up_to(39) {
+        0 => {
+            // at the upper limit of W
+            let words = rng.pick(&[32_766usize, 32_767, 32_768], 32_767);
+            let mut bytes = SMALL.to_vec();
+            bytes.resize(2 * words, 7);
+            bytes
+        }
+        1..=14 => valid_segment(rng, ORDINARY),
+        15..=31 => nearly_valid_segment(rng),
+        32..=37 => damaged_segment(rng),
+        _ => (0..rng.up_to(50)).map(|_| rng.next() as u8).collect(),
+    };
+    let length = bytes.len();
+    let output_length = rng.pick(
+        &[length, length, length + 1, length + 9, length.saturating_sub(1), length / 2, 0],
+        length,
+    );
+    SegmentCase { bytes, output_length }
+}
+
+// ------------------------------------------------------- single instructions
+
+/// Words at the limits of addresses, links and integers.
+fn telling_word(rng: &mut Rng, length: i64, shared: i64) -> u16 {
+    let limits = [
+        0, 0, 1, 2, 5, 22, 32_767, 32_768, 32_769, 65_534, 65_535, 65_529, 300,
+        length - 6, length - 5, length - 4, length - 1, length, length + 1,
+        32_768 + shared - 1, 32_768 + shared, 32_768 + shared / 2,
+    ];
+    match rng.up_to(9) {
+        0..=2 => rng.between(1, length - 5) as u16,
+        3..=7 => rng.pick(&limits, 0) as u16,
+        8 => rng.up_to(9) as u16,
+        _ => rng.next() as u16,
+    }
+}
+
+/// A sound session in a region of telling words, for a segment.
+fn sound_session(rng: &mut Rng, segment: &Segment, shared: i64) -> (Vec<u16>, Session) {
+    let floor = 6 + i64::from(segment.global_size());
+    let lowest = floor.max(16);
+    let length = match rng.up_to(199) {
+        0 => 32_768,
+        1 => rng.between(lowest, 32_768),
+        _ => rng.pick_in(&[lowest, lowest, lowest + 1, 17, 18, 21, 22, 30, 45, 70], lowest, lowest + 90),
+    };
+    let mut region: Vec<u16> =
+        (0..length).map(|_| telling_word(rng, length, shared)).collect();
+    let m = rng.pick_in(&[1, 1, 2, length - 5, length - 5, length - 6], 1, length - 5);
+    let sp = rng.pick_in(
+        &[floor, floor, floor + 1, length, length - 1, length - 2, length - 3, length - 4],
+        floor,
+        length,
+    );
+    // The mark at M: often a good one, sometimes with one word spoilt.
+    if rng.chance(3, 4) {
+        let words = i64::from(segment.words);
+        let count = i64::from(segment.count());
+        let mut mark = [
+            rng.pick_in(&[1, m, length - 5], 1, length - 5),
+            rng.pick_in(&[1, m, length - 5], 1, length - 5),
+            rng.pick_in(&[22, 2 * words], 22, 2 * words),
+            1,
+            rng.pick_in(&[1, count], 1, count),
+        ];
+        if rng.chance(1, 3) {
+            let (index, value) = match rng.up_to(4) {
+                0 => (0, rng.pick(&[0, length - 4, 65_535], 0)),
+                1 => (1, rng.pick(&[0, length - 4, 65_535], 0)),
+                2 => (2, rng.pick(&[0, 21, 2 * words + 1, 65_535], 0)),
+                3 => (3, rng.pick(&[0, 2, 257, 65_535], 0)),
+                _ => (4, rng.pick(&[0, count + 1, 256, 65_535], 0)),
+            };
+            if let Some(word) = mark.get_mut(index) {
+                *word = value;
+            }
+        }
+        for (place, word) in region.iter_mut().skip(m as usize).zip(mark) {
+            *place = word as u16;
+        }
+    }
+    let session = Session {
+        sp: sp as u32,
+        m: m as u32,
+        counter: rng.between(22, 2 * i64::from(segment.words)) as u32,
+        routine: rng.between(1, i64::from(segment.count())) as u32,
+        kind: Kind::Ready,
+    };
+    (region, session)
+}
+
+/// A case that meets one first byte near a limit of its own, or, for `None`,
+/// the end of the segment.
+pub fn single_case(rng: &mut Rng, first: Option<u8>) -> RunCase {
+    loop {
+        let mut bytes = valid_segment(rng, Wish { program: false, ..ORDINARY });
+        let shared_length = rng.pick(&[0, 1, 2, 7, 40], 0);
+        let shared: Vec<u16> = (0..shared_length).map(|_| rng.next() as u16).collect();
+        let Ok(segment) = Segment::judge(&bytes) else { continue };
+        let (region, mut session) = sound_session(rng, &segment, shared_length);
+        let global_size = segment.global_size();
+        let end = bytes.len() as i64;
+
+        let Some(first) = first else {
+            session.counter = end as u32;
+            return RunCase { segment: bytes, shared, region, session, k: 1 };
+        };
+
+        // Where it stands: somewhere, at the very end, or cut off by the end.
+        let size = 1 + operand_size(first, rng);
+        let place = match rng.up_to(4) {
+            0 => end - size,
+            1 => end - rng.between(1, size),
+            _ => rng.between(22, end - size),
+        };
+        if place < 22 {
+            continue;
+        }
+        let mut code = vec![first];
+        if let Some(instruction) = machine::instruction(first) {
+            let view = View { segment: &segment, region: &region, session: &session, shared_length };
+            telling_operands(rng, &instruction, &view, place + size, size, &mut code);
+        }
+        for (at, byte) in (place as usize..).zip(code) {
+            if let Some(spot) = bytes.get_mut(at) {
+                *spot = byte;
+            }
+        }
+        session.counter = place as u32;
+
+        // The instruction may have been laid over the segment's own words; the
+        // case is kept if it is still a sound one.
+        let kept = match Segment::judge(&bytes) {
+            Ok(now) => {
+                now.global_size() == global_size && session.routine <= now.count()
+            }
+            Err(_) => false,
+        };
+        if kept {
+            return RunCase { segment: bytes, shared, region, session, k: 1 };
+        }
+    }
+}
+
+/// Bytes of operands; a B gets one or two.
+fn operand_size(first: u8, rng: &mut Rng) -> i64 {
+    let big = rng.between(1, 2);
+    match machine::instruction(first).map(|instruction| instruction.form) {
+        None | Some(Form::Nothing) => 0,
+        Some(Form::Ub | Form::Sb) => 1,
+        Some(Form::W | Form::DbUb) => 2,
+        Some(Form::B) => big,
+        Some(Form::DbB) => 1 + big,
+    }
+}
+
+struct View<'a> {
+    segment: &'a Segment<'a>,
+    region: &'a [u16],
+    session: &'a Session,
+    shared_length: i64,
+}
+
+impl View<'_> {
+    fn word(&self, at: i64) -> i64 {
+        usize::try_from(at).ok().and_then(|at| self.region.get(at)).map_or(0, |w| i64::from(*w))
+    }
+}
+
+/// Operands at and beside the limits that this state sets.
+fn telling_operands(
+    rng: &mut Rng,
+    instruction: &machine::Instruction,
+    view: &View,
+    next: i64,
+    size: i64,
+    code: &mut Vec<u8>,
+) {
+    let length = view.region.len() as i64;
+    let words = i64::from(view.segment.words);
+    let count = i64::from(view.segment.count());
+    let floor = 6 + i64::from(view.segment.global_size());
+    let m = i64::from(view.session.m);
+    let mut links = i64::from(instruction.links);
+
+    if matches!(instruction.form, Form::DbB | Form::DbUb) {
+        links = rng.pick(&[0, 0, 1, 1, 1, 2, 2, 3, 126, 127, 128, 129, 255], 0);
+        code.push(links as u8);
+    }
+    // The record the links lead to, as far as they do.
+    let mut record = m;
+    for _ in 0..links {
+        record = view.word(record);
+    }
+
+    let around = |limit: i64| [limit - 1, limit, limit + 1];
+    let mut limits: Vec<i64> = Vec::new();
+    match instruction.op {
+        Op::LoadLocal | Op::AddressLocal | Op::StoreLocal => {
+            limits.extend(around(length - (m + 4)));
+            limits.extend([0, 1, 2]);
+        }
+        Op::LoadGlobal | Op::AddressGlobal | Op::StoreGlobal => {
+            limits.extend(around(length - 5));
+            limits.extend([0, 1, 2]);
+        }
+        Op::LoadIntermediate | Op::AddressIntermediate | Op::StoreIntermediate => {
+            limits.extend(around(length - (record + 4)));
+            limits.extend([0, 1, 2]);
+        }
+        Op::LoadIndexed => {
+            let base = view.word(i64::from(view.session.sp));
+            for target in [length, 32_768, 32_768 + view.shared_length, 65_536] {
+                limits.extend(around(target - base));
+            }
+            limits.extend([0, 1]);
+        }
+        Op::PushPoolOffset => {
+            limits.extend(around(words - i64::from(view.segment.pool)));
+            limits.extend([0, 1, 32_767]);
+        }
+        Op::Return => {
+            limits.extend(around(length - (m + 5)));
+            limits.extend(around(floor - (m + 5)));
+            limits.push(0);
+        }
+        Op::CallLocal | Op::CallGlobal | Op::CallIntermediate => {
+            limits.extend([0, 1, 1, 2, count, count, count + 1, 255]);
+        }
+        Op::Jump | Op::FalseJump | Op::TrueJump => {
+            limits.extend(around(22 - next));
+            limits.extend(around(2 * words - next));
+            limits.extend([0, -2, -size, 127, -128, 32_767, -32_768]);
+        }
+        _ => limits.extend([0, 1, 127, 128, 255, 256, -1, -32_768, 32_767]),
+    }
+
+    match instruction.form {
+        Form::Nothing => {}
+        Form::Ub | Form::DbUb => code.push(rng.pick_in(&limits, 0, 255) as u8),
+        Form::Sb => code.push(rng.pick_in(&limits, -128, 127) as i8 as u8),
+        Form::W => {
+            code.extend((rng.pick_in(&limits, -32_768, 32_767) as i16).to_le_bytes());
+        }
+        Form::B | Form::DbB => {
+            // one byte or two, as the size was drawn
+            let left = size - code.len() as i64;
+            if left <= 1 {
+                code.push(rng.pick_in(&limits, 0, 127) as u8);
+            } else {
+                let value = rng.pick_in(&limits, 0, 32_767) as u16;
+                code.extend((value | 0x8000).to_be_bytes());
+            }
+        }
+    }
+}
+
+/// Which faults document 01 lets each first byte give, in its order of checks.
+/// (Written from 01, not from the interpreter.)
+///
+/// 1 needs operand bytes; 2 a byte not carried or a DB; 3 words taken; 9 a
+/// static link or a return; 8 a call; 5 a division; 6 an address; 7 a jump; 10
+/// CHK; 4 a step that ends with SP lower.  SLDO1 to SLDO10 name words 6 to 15,
+/// which every region has (L is at least 16), so they have no 6.
+pub fn possible_faults(first: u8) -> &'static [u32] {
+    match first {
+        0..=31 => &[4],                      // SLDC
+        32..=47 => &[6, 4],                  // SLDL
+        48..=57 => &[4],                     // SLDO1..10
+        58..=63 => &[6, 4],                  // SLDO11..16
+        96..=103 => &[6, 4],                 // SLLA
+        104..=111 => &[3, 6],                // SSTL
+        120..=127 => &[3, 6],                // SIND
+        128 | 129 => &[1, 4],                // LDCB LDCI
+        130 => &[1, 6, 4],                   // LCO
+        132..=135 => &[1, 6, 4],             // LLA LDO LAO LDL
+        136 | 137 => &[1, 2, 9, 6, 4],       // LDA LOD
+        138 | 139 => &[1, 7],                // UJP JPL
+        140 => &[3],                         // MPI
+        141 | 143 => &[3, 5],                // DVI MODI
+        144 | 145 => &[1, 8, 4],             // CPL CPG
+        146 => &[1, 2, 9, 8, 4],             // CPI
+        150 => &[1, 9],                      // RPU
+        152 => &[4],                         // LDCN
+        156 => &[],                          // NOP
+        160..=163 => &[3],                   // LOR LAND ADI SBI
+        164 | 165 => &[1, 3, 6],             // STL SRO
+        166 => &[1, 2, 3, 9, 6],             // STR
+        173 | 174 => &[1, 9, 6, 4],          // SLOD1 SLOD2
+        176..=181 => &[3],                   // EQUI NEQI LEQI GEQI LEUSW GEUSW
+        189 => &[3],                         // SWAP
+        196 => &[3, 6],                      // STO
+        203 => &[3, 10],                     // CHK
+        212 | 213 | 241 => &[1, 3, 7],       // FJP FJPL TJP
+        224 | 225 | 229 | 237 | 238 => &[3], // ABI NGI LNOT INCI DECI
+        226 => &[3, 4],                      // DUP1
+        230 => &[1, 3, 6],                   // IND
+        239 | 240 => &[1, 9, 8, 4],          // SCPI1 SCPI2
+        _ => &[2],
+    }
+}
+
+/// Whether a step with this first byte can go well.
+fn can_go_well(first: u8) -> bool {
+    possible_faults(first) != [2]
+}
+
+/// What one step came to: a fault number, 0 for gone on, 11 for finished.
+pub const GONE_ON: u32 = 0;
+pub const FINISHED: u32 = 11;
+
+/// The first byte (`None` beyond the end) and what the step came to.
+pub type Outcome = (Option<u8>, u32);
+
+/// Run one step of a case by the plain machine and say what it came to.
+pub fn outcome(case: &RunCase) -> Outcome {
+    let first = case.segment.get(case.session.counter as usize).copied();
+    let Ok(segment) = Segment::judge(&case.segment) else { return (first, GONE_ON) };
+    let mut region = case.region.clone();
+    let mut session = case.session;
+    machine::step(&segment, &case.shared, &mut region, &mut session);
+    let came_to = match session.kind {
+        Kind::Ready => GONE_ON,
+        Kind::Finished => FINISHED,
+        Kind::Faulted { number, .. } => number,
+    };
+    (first, came_to)
+}
+
+/// Every outcome that document 01 makes possible.
+pub fn possible_outcomes() -> Vec<Outcome> {
+    let mut possible = vec![(None, 1)];
+    for first in 0..=255u8 {
+        if can_go_well(first) {
+            possible.push((Some(first), GONE_ON));
+        }
+        if first == 150 {
+            possible.push((Some(first), FINISHED));
+        }
+        possible.extend(possible_faults(first).iter().map(|fault| (Some(first), *fault)));
+    }
+    possible
+}
+
+/// Single steps of all 256 first bytes (and of the end of the segment) until
+/// each possible outcome is there `wanted` times.  More common outcomes are
+/// kept three times as often at most.
+pub fn single_cases(seed: u64, wanted: usize) -> (Vec<RunCase>, BTreeMap<Outcome, usize>) {
+    let mut rng = Rng(seed);
+    let mut cases = Vec::new();
+    let mut seen: BTreeMap<Outcome, usize> = BTreeMap::new();
+    let possible = possible_outcomes();
+    for first in std::iter::once(None).chain((0..=255).map(Some)) {
+        let hoped: Vec<Outcome> =
+            possible.iter().filter(|(byte, _)| *byte == first).copied().collect();
+        for _ in 0..4_000 {
+            if hoped.iter().all(|outcome| seen.get(outcome).copied().unwrap_or(0) >= wanted) {
+                break;
+            }
+            let case = single_case(&mut rng, first);
+            let count = seen.entry(outcome(&case)).or_insert(0);
+            if *count < 3 * wanted {
+                *count += 1;
+                cases.push(case);
+            }
+        }
+    }
+    (cases, seen)
+}
+
+// --------------------------------------------------------------------- runs
+
+/// A run of some steps, from the starting state or from some sound one.
+pub fn run_case(rng: &mut Rng) -> RunCase {
+    let wish = match rng.up_to(9) {
+        0 => Wish { most_words: 400, ..ORDINARY },
+        _ => Wish { most_words: 120, ..ORDINARY },
+    };
+    let segment_bytes = valid_segment(rng, wish);
+    let shared_length = rng.pick(&[0, 1, 7, 40], 0);
+    let shared: Vec<u16> = (0..shared_length).map(|_| rng.next() as u16).collect();
+    let (mut region, mut session) = match Segment::judge(&segment_bytes) {
+        Ok(segment) => sound_session(rng, &segment, shared_length),
+        Err(_) => (vec![0; 16], Record::UNUSED.session),
+    };
+    if rng.chance(2, 3) {
+        if let Ok(segment) = Segment::judge(&segment_bytes) {
+            let length = rng.between(i64::from(segment.global_size()) + 16, 150) as u32;
+            session = machine::starting_state(&segment, length);
+            region = vec![0; length as usize];
+        }
+    }
+    let k = rng.pick(&[0, 1, 2, 9, 100, 100, 400, 65_535], 9);
+    RunCase { segment: segment_bytes, shared, region, session, k }
+}
+
+// -------------------------------------------------------------------- benches
+
+/// A sound bench with loaded slots and open sessions.
+pub fn sound_bench(rng: &mut Rng) -> BenchCase {
+    let shared = rng.pick(&[0u64, 0, 1, 5, 40], 0);
+    let words = shared + rng.pick(&[0u64, 15, 16, 40, 100, 300, 800, 2_000], 100);
+    let memory: Vec<u16> = (0..words).map(|_| rng.next() as u16).collect();
+    let mut store = Vec::new();
+    let mut ranges = Vec::new();
+    for _ in 0..=rng.up_to(3) {
+        for _ in 0..rng.pick(&[0, 0, 2, 6], 0) {
+            store.push(rng.next() as u8);
+        }
+        let bytes = if rng.chance(1, 5) {
+            nearly_valid_segment(rng)
+        } else {
+            valid_segment(rng, ORDINARY)
+        };
+        if store.len() % 2 == 1 {
+            store.push(0);
+        }
+        ranges.push((store.len() as u64, bytes.len() as u64));
+        store.extend(bytes);
+    }
+    let Ok(bench) = bench::new_bench(shared, words) else {
+        return BenchCase { bench: blank_bench(), memory: Vec::new(), store };
+    };
+    let mut case = BenchCase { bench, memory, store };
+    for (start, length) in ranges {
+        let slot = rng.up_to(15);
+        let _ = ask(&mut case, Call::Load { slot, start, length });
+    }
+    let loaded = loaded_slots(&case.bench);
+    let openings = rng.pick(&[0, 1, 2, 3, 5, 18], 2);
+    for _ in 0..openings {
+        let slot = rng.pick(&loaded, 0);
+        let length = rng.between(16, 60) as u64;
+        let _ = ask(&mut case, Call::Open { slot, length });
+    }
+    for _ in 0..rng.up_to(4) {
+        let session = rng.up_to(15);
+        let k = rng.up_to(30);
+        let _ = ask(&mut case, Call::Turn { session, k });
+        if rng.chance(1, 4) {
+            let _ = ask(&mut case, Call::Close { session });
+        }
+    }
+    case
+}
+
+fn blank_bench() -> Bench {
+    Bench { shared: 0, words: 0, slots: [bench::Slot::EMPTY; 16], records: [Record::UNUSED; 16] }
+}
+
+fn loaded_slots(bench: &Bench) -> Vec<u64> {
+    (0..16).zip(bench.slots).filter(|(_, slot)| slot.loaded).map(|(number, _)| number).collect()
+}
+
+fn open_sessions(bench: &Bench) -> Vec<u64> {
+    (0..16).zip(bench.records).filter(|(_, record)| record.open).map(|(number, _)| number).collect()
+}
+
+/// The fields of a bench that can be damaged, each with values just inside and
+/// just outside its limits.
+pub const DAMAGES: [&str; 31] = [
+    "S just at a limit", "S beyond 32,768", "S beyond N", "N beyond 1,048,576",
+    "memory one word short", "memory one word long", "slot range to the store's end",
+    "slot range beyond the store", "slot start far beyond", "slot length odd",
+    "segment in a slot spoilt", "region below S", "region at N", "region beyond N",
+    "regions touch", "regions overlap", "slot named is 16 or more", "slot named not loaded",
+    "L below 16", "L below 6+G", "SP at a limit", "SP outside", "M at a limit", "M outside",
+    "counter at a limit", "counter outside", "routine at a limit", "routine outside",
+    "fault and place at a limit", "fault outside 1..10", "place outside 22..2W",
+];
+
+/// Damage one field of a sound bench.  Answers whether the bench is sound
+/// after it, as 01's sentence has it, or `None` if the bench offers no such
+/// field (no slot loaded, no session open, ...).
+pub fn damage(rng: &mut Rng, case: &mut BenchCase, kind: &str) -> Option<bool> {
+    let sessions = open_sessions(&case.bench);
+    let session = *sessions.get(rng.up_to((sessions.len() as u64).max(1) - 1) as usize)? as usize;
+    let record = *case.bench.records.get(session)?;
+    let slot = *case.bench.slots.get(record.slot as usize)?;
+    let bytes = case.store.get(slot.start as usize..(slot.start + slot.length) as usize)?;
+    let segment = Segment::judge(bytes).ok()?;
+    let (words, count) = (segment.words, segment.count());
+    let floor = 6 + segment.global_size();
+    let entry = segment.routine(1)?.entry;
+    let sex = segment.sex;
+    let (shared, all) = (case.bench.shared, case.bench.words);
+    let others: Vec<Record> = case
+        .bench
+        .records
+        .iter()
+        .enumerate()
+        .filter(|(number, other)| other.open && *number != session)
+        .map(|(_, other)| *other)
+        .collect();
+    let lowest_base =
+        case.bench.records.iter().filter(|other| other.open).map(|other| other.base).min()?;
+    let store_length = case.store.len() as u64;
+    let named = record.slot as usize;
+    let length = record.length;
+    let bench = &mut case.bench;
+    let field = bench.records.get_mut(session)?;
+    match kind {
+        "S just at a limit" => {
+            // S may rise to the lowest region
+            bench.shared = lowest_base;
+            Some(lowest_base <= 32_768)
+        }
+        "S beyond 32,768" => {
+            // a memory large enough, all regions above the new S
+            let by = 32_769 - lowest_base.min(32_768);
+            for other in bench.records.iter_mut().filter(|other| other.open) {
+                other.base += by;
+            }
+            bench.shared = rng.pick(&[32_769, 32_768 + 1], 32_769);
+            bench.words += by;
+            case.memory.resize(bench.words as usize, 3);
+            Some(false)
+        }
+        "S beyond N" => {
+            bench.shared = all + 1;
+            Some(false)
+        }
+        "N beyond 1,048,576" => {
+            bench.words = 1_048_577;
+            case.memory.resize(1_048_577, 0);
+            Some(false)
+        }
+        "memory one word short" => {
+            case.memory.pop();
+            Some(false)
+        }
+        "memory one word long" => {
+            case.memory.push(9);
+            Some(false)
+        }
+        "slot range to the store's end" => {
+            // the slot's bytes moved to the very end of the store
+            let copy = case.store.get(slot.start as usize..(slot.start + slot.length) as usize)?;
+            let copy = copy.to_vec();
+            bench.slots.get_mut(named)?.start = store_length;
+            case.store.extend(copy);
+            Some(true)
+        }
+        "slot range beyond the store" => {
+            let copy = case.store.get(slot.start as usize..(slot.start + slot.length) as usize)?;
+            let copy = copy.to_vec();
+            bench.slots.get_mut(named)?.start = store_length;
+            case.store.extend(copy);
+            case.store.pop();
+            Some(false)
+        }
+        "slot start far beyond" => {
+            bench.slots.get_mut(named)?.start =
+                rng.pick(&[u64::MAX, u64::MAX - slot.length, store_length + 2, 1 << 32], u64::MAX);
+            Some(false)
+        }
+        "slot length odd" => {
+            bench.slots.get_mut(named)?.length -= 1;
+            Some(false)
+        }
+        "segment in a slot spoilt" => {
+            let range = slot.start as usize..(slot.start + slot.length) as usize;
+            let bytes = case.store.get_mut(range)?;
+            match rng.up_to(3) {
+                0 => *bytes.get_mut(12)? = 2,
+                1 => put_word(bytes, sex, 1, 1),
+                2 => put_word(bytes, sex, i64::from(entry), 32_768),
+                _ => put_word(bytes, sex, i64::from(entry) - 1, 21),
+            }
+            Some(false)
+        }
+        "region below S" => {
+            if shared == 0 {
+                return None;
+            }
+            field.base = shared - 1;
+            Some(false)
+        }
+        "region at N" => {
+            field.base = all - length;
+            Some(others.iter().all(|o| o.base + o.length <= all - length))
+        }
+        "region beyond N" => {
+            field.base = all - length + 1;
+            Some(false)
+        }
+        "regions touch" => {
+            let other = others.first()?;
+            field.base = other.base + other.length;
+            let (begin, end) = (field.base, field.base + length);
+            Some(end <= all && others.iter().all(|o| end <= o.base || o.base + o.length <= begin))
+        }
+        "regions overlap" => {
+            let other = others.first()?;
+            field.base = other.base + other.length - 1;
+            Some(false)
+        }
+        "slot named is 16 or more" => {
+            field.slot = rng.pick(&[16, 17, 255, 256 + record.slot, u32::MAX], 16);
+            Some(false)
+        }
+        "slot named not loaded" => {
+            bench.slots.get_mut(named)?.loaded = false;
+            Some(false)
+        }
+        "L below 16" => {
+            field.length = rng.pick(&[15, 15, 0, 1], 15);
+            field.session.sp = field.length;
+            field.session.m = 1;
+            Some(false)
+        }
+        "L below 6+G" => {
+            if floor <= 16 {
+                // make G large instead: 6+G is L+1
+                let range = slot.start as usize..(slot.start + slot.length) as usize;
+                let bytes = case.store.get_mut(range)?;
+                put_word(bytes, sex, i64::from(entry), i64::from(length) - 5);
+                return Segment::judge(bytes).is_ok().then_some(false);
+            }
+            field.length = floor - 1;
+            field.session.sp = floor - 1;
+            field.session.m = 1;
+            Some(false)
+        }
+        "SP at a limit" => {
+            field.session.sp = rng.pick(&[floor, length], length);
+            Some(true)
+        }
+        "SP outside" => {
+            field.session.sp = rng.pick(&[floor - 1, length + 1, 0, u32::MAX], 0);
+            Some(false)
+        }
+        "M at a limit" => {
+            field.session.m = rng.pick(&[1, length - 5], 1);
+            Some(true)
+        }
+        "M outside" => {
+            field.session.m = rng.pick(&[0, length - 4, length, u32::MAX], 0);
+            Some(false)
+        }
+        "counter at a limit" => {
+            field.session.counter = rng.pick(&[22, 2 * words], 22);
+            Some(true)
+        }
+        "counter outside" => {
+            field.session.counter = rng.pick(&[21, 2 * words + 1, 0, u32::MAX], 0);
+            Some(false)
+        }
+        "routine at a limit" => {
+            field.session.routine = rng.pick(&[1, count], 1);
+            Some(true)
+        }
+        "routine outside" => {
+            field.session.routine = rng.pick(&[0, count + 1, u32::MAX], 0);
+            Some(false)
+        }
+        "fault and place at a limit" => {
+            let number = rng.pick(&[1, 10], 1);
+            let place = rng.pick(&[22, 2 * words], 22);
+            field.session.kind = Kind::Faulted { number, place };
+            Some(true)
+        }
+        "fault outside 1..10" => {
+            let number = rng.pick(&[0, 11, u32::MAX], 0);
+            field.session.kind = Kind::Faulted { number, place: 22 };
+            Some(false)
+        }
+        "place outside 22..2W" => {
+            let place = rng.pick(&[21, 2 * words + 1, 0, u32::MAX], 0);
+            field.session.kind = Kind::Faulted { number: 1, place };
+            Some(false)
+        }
+        _ => None,
+    }
+}
+
+/// An entry to ask for, mostly a sensible one.
+pub fn call(rng: &mut Rng, case: &BenchCase) -> Call {
+    let odd_number = rng.pick(&[15, 16, 17, 256, 65_536, 4_000_000_000, u64::MAX], 16);
+    let loaded = loaded_slots(&case.bench);
+    let open = open_sessions(&case.bench);
+    let any = rng.up_to(15);
+    let number = |rng: &mut Rng, known: &[u64]| match rng.up_to(9) {
+        0 => odd_number,
+        1 | 2 => any,
+        _ => rng.pick(known, any),
+    };
+    match rng.up_to(12) {
+        0 => {
+            let store = case.store.len() as u64;
+            let start = match rng.up_to(5) {
+                0 => rng.pick(&[1, 3, store, store + 1, store + 2, u64::MAX], 1),
+                _ => rng.up_to(store / 2) * 2,
+            };
+            let length = match rng.up_to(3) {
+                0 => rng.pick(&[0, 1, 30, 31, u64::MAX, store, store.saturating_sub(start)], 0),
+                _ => rng.up_to(store / 2 + 1) * 2,
+            };
+            let slot = number(rng, &[any]);
+            Call::Load { slot, start, length }
+        }
+        1 => {
+            // reload a range that some slot has
+            let known = case.bench.slots.get(rng.pick(&loaded, 0) as usize).copied();
+            let known = known.unwrap_or(bench::Slot::EMPTY);
+            Call::Load { slot: number(rng, &[any]), start: known.start, length: known.length }
+        }
+        2..=4 => {
+            let length = match rng.up_to(4) {
+                0 => rng.pick(&[15, 16, 32_768, 32_769, 0, 6, u64::MAX], 16),
+                _ => rng.between(16, 70) as u64,
+            };
+            Call::Open { slot: number(rng, &loaded), length }
+        }
+        5..=10 => {
+            let k = rng.pick(&[0, 1, 2, 9, 30, 200, 65_535, 65_536, u64::MAX], 9);
+            Call::Turn { session: number(rng, &open), k }
+        }
+        11 => Call::Close { session: number(rng, &open) },
+        _ => match rng.up_to(9) {
+            0 => Call::New {
+                shared: rng.pick(&[0, 1, 32_768, 32_769, u64::MAX], 0),
+                words: rng.pick(&[0, 1, 32_768, 1_048_576, 1_048_577, u64::MAX], 0),
+            },
+            _ => Call::Turn { session: number(rng, &open), k: 1 },
+        },
+    }
+}
+
+/// Entries from several sessions on one bench, which may be damaged.
+pub fn sequence_case(rng: &mut Rng) -> SequenceCase {
+    let mut start = sound_bench(rng);
+    if rng.chance(1, 6) {
+        let mut spoilt = start.clone();
+        let kind = rng.pick(&DAMAGES, "M outside");
+        // the million-word memories are left to the damage cases
+        if kind != "N beyond 1,048,576" && damage(rng, &mut spoilt, kind).is_some() {
+            start = spoilt;
+        }
+    }
+    let mut now = start.clone();
+    let mut calls = Vec::new();
+    for _ in 0..rng.pick(&[3, 10, 30], 10) {
+        let next = call(rng, &now);
+        let _ = ask(&mut now, next);
+        calls.push(next);
+    }
+    SequenceCase { start, calls }
+}
+
+// ------------------------------------------------------------------- coverage
+
+/// Which refusals each entry can give; 0 is none.  "Order: loading 11, 12, 17,
+/// then 1 to 8. Turning 1 to 10. Opening 11, 12, 13, 14, 15. Turn and closing
+/// 11, 12, 16."  (16 is a turn's alone.)
+pub fn possible_refusals() -> [(&'static str, &'static [u32]); 6] {
+    [
+        ("turning", &[0, 1, 2, 3, 4, 5, 6, 7, 8, 9, 10]),
+        ("new bench", &[0, 17]),
+        ("loading", &[0, 11, 12, 17, 1, 2, 3, 4, 5, 6, 7, 8]),
+        ("opening", &[0, 11, 12, 13, 14, 15]),
+        ("turn", &[0, 11, 12, 16]),
+        ("closing", &[0, 11, 12]),
+    ]
+}
+
+fn entry_name(call: &Call) -> &'static str {
+    match call {
+        Call::New { .. } => "new bench",
+        Call::Load { .. } => "loading",
+        Call::Open { .. } => "opening",
+        Call::Turn { .. } => "turn",
+        Call::Close { .. } => "closing",
+    }
+}
+
+fn number_of<T>(answer: &Result<T, Refusal>) -> u32 {
+    answer.as_ref().err().map_or(0, |refusal| refusal.number)
+}
+
+/// A loading of each sort of nearly valid segment, on an empty bench, so that
+/// loading meets every refusal.
+pub fn loading_case(rng: &mut Rng) -> SequenceCase {
+    let bytes = match rng.up_to(2) {
+        0 => valid_segment(rng, ORDINARY),
+        1 => nearly_valid_segment(rng),
+        _ => damaged_segment(rng),
+    };
+    let length = bytes.len() as u64;
+    let lead = rng.pick(&[0u64, 2, 4, 1], 0);
+    let mut store = vec![7; lead as usize];
+    store.extend(bytes);
+    store.extend(vec![7; rng.pick(&[0usize, 1, 8], 0)]);
+    let length = length + rng.pick(&[0, 0, 0, 0, 2, 10], 0);
+    let bench = bench::new_bench(0, 0).unwrap_or_else(|_| blank_bench());
+    let start = BenchCase { bench, memory: Vec::new(), store };
+    let slot = rng.pick(&[0, 3, 15, 15, 16], 0);
+    let call = Call::Load { slot, start: lead, length };
+    // the second asks for a loaded slot, if the first went well
+    SequenceCase { start, calls: vec![call, call] }
+}
+
+/// All that was seen.
+#[derive(Clone, Debug, Default)]
+pub struct Coverage {
+    pub steps: BTreeMap<Outcome, usize>,
+    pub refusals: BTreeMap<(&'static str, u32), usize>,
+    pub damages: BTreeMap<(&'static str, bool), usize>,
+    pub run_ends: BTreeMap<u32, usize>,
+    pub run_steps: u64,
+    /// First bytes met in runs.
+    pub run_bytes: BTreeMap<u8, usize>,
+    pub faults: Vec<String>,
+}
+
+/// Generate everything once and count what it came to.
+pub fn cover(seed: u64, wanted: usize) -> Coverage {
+    let (_, steps) = single_cases(seed, wanted);
+    let mut coverage = Coverage { steps, ..Coverage::default() };
+
+    let mut rng = Rng(seed ^ 0x5E65);
+    for _ in 0..3_000 {
+        let case = segment_case(&mut rng);
+        let mut output = vec![0xAA; case.output_length];
+        let answer = segment::turn_over(&case.bytes, &mut output);
+        *coverage.refusals.entry(("turning", number_of(&answer))).or_default() += 1;
+    }
+
+    let mut rng = Rng(seed ^ 0xBE4C);
+    for _ in 0..1_200 {
+        let case = if rng.chance(2, 3) { sequence_case(&mut rng) } else { loading_case(&mut rng) };
+        let mut now = case.start;
+        for call in case.calls {
+            let before = now.clone();
+            let answer = ask(&mut now, call);
+            if answer.is_err() && now != before {
+                coverage.faults.push(format!("refused and changed: {call:?}"));
+            }
+            *coverage.refusals.entry((entry_name(&call), number_of(&answer))).or_default() += 1;
+        }
+    }
+    for shared in [0, 1, 32_768, 32_769, u64::MAX] {
+        for words in [0, 1, 32_768, 1_048_576, 1_048_577, u64::MAX] {
+            let answer = bench::new_bench(shared, words);
+            *coverage.refusals.entry(("new bench", number_of(&answer))).or_default() += 1;
+        }
+    }
+
+    let mut rng = Rng(seed ^ 0xDA3A);
+    for kind in DAMAGES {
+        let large = kind == "N beyond 1,048,576" || kind == "S beyond 32,768";
+        let hoped = if large { 2 } else { wanted };
+        let mut found = 0;
+        for _ in 0..40 * wanted {
+            if found >= hoped {
+                break;
+            }
+            let mut case = sound_bench(&mut rng);
+            let Some(sound) = damage(&mut rng, &mut case, kind) else { continue };
+            found += 1;
+            *coverage.damages.entry((kind, sound)).or_default() += 1;
+            if bench::is_sound(&case.bench, &case.memory, &case.store) != sound {
+                coverage.faults.push(format!("{kind}: expected sound = {sound}"));
+            }
+        }
+        if found < hoped {
+            coverage.faults.push(format!("{kind}: only {found} of {hoped}"));
+        }
+    }
+
+    let mut rng = Rng(seed ^ 0x0121);
+    for _ in 0..1_500 {
+        let case = run_case(&mut rng);
+        let Ok(segment) = Segment::judge(&case.segment) else { continue };
+        let (mut region, mut session) = (case.region.clone(), case.session);
+        let k = case.k.min(2_000);
+        let mut done = 0;
+        while done < k && session.kind == Kind::Ready {
+            if let Some(first) = case.segment.get(session.counter as usize) {
+                *coverage.run_bytes.entry(*first).or_default() += 1;
+            }
+            done += machine::turn(&segment, &case.shared, &mut region, &mut session, 1);
+        }
+        coverage.run_steps += done;
+        let end = match session.kind {
+            Kind::Ready => GONE_ON,
+            Kind::Finished => FINISHED,
+            Kind::Faulted { number, .. } => number,
+        };
+        *coverage.run_ends.entry(end).or_default() += 1;
+    }
+    coverage
+}
+
+impl Coverage {
+    /// What is possible and was seen fewer than `wanted` times, what was seen
+    /// and is not possible, and what else went wrong.
+    pub fn complaints(&self, wanted: usize) -> Vec<String> {
+        let mut complaints = self.faults.clone();
+        let possible = possible_outcomes();
+        for outcome in &possible {
+            let seen = self.steps.get(outcome).copied().unwrap_or(0);
+            if seen < wanted {
+                complaints.push(format!("step {} seen {seen} times", show(*outcome)));
+            }
+        }
+        for outcome in self.steps.keys().filter(|outcome| !possible.contains(outcome)) {
+            complaints.push(format!("step {} seen, but not possible", show(*outcome)));
+        }
+        for (entry, numbers) in possible_refusals() {
+            for number in numbers {
+                if !self.refusals.contains_key(&(entry, *number)) {
+                    complaints.push(format!("{entry} never gave {number}"));
+                }
+            }
+            for ((_, number), _) in self.refusals.iter().filter(|((name, _), _)| *name == entry) {
+                if !numbers.contains(number) {
+                    complaints.push(format!("{entry} gave {number}, which is not possible"));
+                }
+            }
+        }
+        complaints
+    }
+
+    /// A table to read.
+    pub fn report(&self) -> String {
+        let mut text = String::from("first byte: what a step came to, and how often\n");
+        for first in std::iter::once(None).chain((0..=255).map(Some)) {
+            let name = match first {
+                None => "end".to_string(),
+                Some(byte) => {
+                    let name = machine::instruction(byte).map_or("-", |row| row.name);
+                    format!("{byte:3} {name}")
+                }
+            };
+            text += &format!("  {name:10}");
+            for ((_, came_to), count) in self.steps.iter().filter(|((byte, _), _)| *byte == first) {
+                text += &match *came_to {
+                    GONE_ON => format!("  ok:{count}"),
+                    FINISHED => format!("  finished:{count}"),
+                    fault => format!("  {fault}:{count}"),
+                };
+            }
+            text.push('\n');
+        }
+        text += "entry, refusal (0 none): how often\n";
+        for ((entry, number), count) in &self.refusals {
+            text += &format!("  {entry:10} {number:2}: {count}\n");
+        }
+        text += "damage, whether sound after it: how often\n";
+        for ((kind, sound), count) in &self.damages {
+            text += &format!("  {kind:30} {sound:5}: {count}\n");
+        }
+        text += &format!("runs: {} steps; ends (0 steps used up, 11 finished): ", self.run_steps);
+        text += &format!("{:?}\n", self.run_ends);
+        let unmet: Vec<u8> = (0..=255)
+            .filter(|byte| can_go_well(*byte) && !self.run_bytes.contains_key(byte))
+            .collect();
+        text += &format!("carried first bytes not met in runs: {unmet:?}\n");
+        text
+    }
+}
+
+fn show((first, came_to): Outcome) -> String {
+    let first = first.map_or("end".to_string(), |byte| byte.to_string());
+    match came_to {
+        GONE_ON => format!("({first}, gone on)"),
+        FINISHED => format!("({first}, finished)"),
+        fault => format!("({first}, fault {fault})"),
+    }
+}

@@ -1,0 +1,12 @@
+//! A second interpreter of the bench of document 01, written from the papers
+//! alone: 01 (docs/01-scope.md, which decides), 000 (the manual of 1983) and
+//! open-questions.md.  Quoted lines without a name are sentences of 01.
+//! Places where the papers are silent are listed in READINGS.md.
+
+#![forbid(unsafe_code)]
+
+pub mod bench;
+pub mod fast;
+pub mod generate;
+pub mod machine;
+pub mod segment;

@@ -1,0 +1,302 @@
+//! The segment: judging, header numbers, routines, operands, word positions
+//! and turning.
+
+use std::collections::BTreeSet;
+
+/// "A refusal returns its number and a place (the routine number for 6 to 8,
+/// else 0)."
+#[derive(Clone, Copy, Debug, PartialEq, Eq)]
+pub struct Refusal {
+    pub number: u32,
+    pub place: u32,
+}
+
+/// A refusal whose place is 0 (every number but 6 to 8).
+pub fn refusal(number: u32) -> Refusal {
+    Refusal { number, place: 0 }
+}
+
+/// "The sex word's bytes are 01 00 (least byte first) or 00 01 (most first)."
+#[derive(Clone, Copy, Debug, PartialEq, Eq)]
+pub enum Sex {
+    LeastFirst,
+    MostFirst,
+}
+
+/// "Entry e is the word number of DATASIZE; EXITIC is word e-1; the first
+/// instruction is byte 2(e+1)."
+#[derive(Clone, Copy, Debug, PartialEq, Eq)]
+pub struct Routine {
+    pub entry: u32,
+    pub data_size: u32,
+    pub exit_ic: u32,
+    pub start: u32,
+}
+
+/// A segment that passed checks 1 to 8, with the numbers read from it.
+#[derive(Clone, Debug, PartialEq, Eq)]
+pub struct Segment<'a> {
+    /// All 2W bytes.
+    pub bytes: &'a [u8],
+    /// W
+    pub words: u32,
+    pub sex: Sex,
+    /// D
+    pub dictionary: u32,
+    pub relocation: u32,
+    pub name: [u8; 8],
+    /// Pool pointer, 0 for no pool.
+    pub pool: u32,
+    pub real_size: u32,
+    pub reserved: [u32; 2],
+    /// Routine k is `routines[k - 1]`; there are n of them.
+    pub routines: Vec<Routine>,
+}
+
+impl<'a> Segment<'a> {
+    // "words 0 to 10 are: routine dictionary pointer, relocation pointer,
+    // eight name characters (words 2 to 5), byte sex, constant pool pointer,
+    // real size, two reserved."
+    pub const DICTIONARY_WORD: u32 = 0;
+    pub const RELOCATION_WORD: u32 = 1;
+    pub const NAME_BYTE: usize = 4;
+    pub const SEX_BYTE: usize = 12;
+    pub const POOL_WORD: u32 = 7;
+    pub const REAL_SIZE_WORD: u32 = 8;
+    pub const RESERVED_WORD: u32 = 9;
+    /// The first byte after the header: "an instruction byte outside 22..2W-1".
+    pub const FIRST_CODE_BYTE: u32 = 22;
+
+    /// Refusals 1 to 8.  "Checks 1 to 5 come first, then 6, 7, 8 for routine
+    /// 1, then routine 2, and so on."
+    pub fn judge(bytes: &'a [u8]) -> Result<Segment<'a>, Refusal> {
+        let words = check_1_length(bytes)?;
+        let sex = check_2_sex(bytes)?;
+        let word = |number: u32| word_at(bytes, sex, number);
+
+        let relocation = word(Self::RELOCATION_WORD);
+        // "relocation pointer not 0"
+        if relocation != 0 {
+            return Err(refusal(3));
+        }
+        let pool = word(Self::POOL_WORD);
+        // "pool pointer neither 0 nor 11..W-1"
+        if pool != 0 && !(11..words).contains(&pool) {
+            return Err(refusal(4));
+        }
+        let dictionary = word(Self::DICTIONARY_WORD);
+        let count = check_5_dictionary(bytes, sex, words, dictionary)?;
+
+        let mut routines = Vec::new();
+        for number in 1..=count {
+            // "word D+k the entry of routine k"
+            let entry = word(dictionary + number);
+            routines.push(check_6_to_8_routine(bytes, sex, words, number, entry)?);
+        }
+
+        let mut name = [0; 8];
+        for (to, from) in name.iter_mut().zip(bytes.iter().skip(Self::NAME_BYTE)) {
+            *to = *from;
+        }
+        Ok(Segment {
+            bytes,
+            words,
+            sex,
+            dictionary,
+            relocation,
+            name,
+            pool,
+            real_size: word(Self::REAL_SIZE_WORD),
+            reserved: [word(Self::RESERVED_WORD), word(Self::RESERVED_WORD + 1)],
+            routines,
+        })
+    }
+
+    /// n, "word D is the count n".
+    pub fn count(&self) -> u32 {
+        self.routines.len() as u32
+    }
+
+    /// Routine k, for k in 1..n.
+    pub fn routine(&self, number: u32) -> Option<Routine> {
+        let index = (number as usize).checked_sub(1)?;
+        self.routines.get(index).copied()
+    }
+
+    /// "G is DATASIZE of its routine 1."  (n is at least 1 after check 5.)
+    pub fn global_size(&self) -> u32 {
+        self.routine(1).map_or(0, |routine| routine.data_size)
+    }
+
+    /// "Word positions are 0, 1, 6 to 10, D to D+n, and e-1 and e of every
+    /// routine."  A set, so that a position named by two rules is there once.
+    pub fn word_positions(&self) -> BTreeSet<u32> {
+        let mut positions = BTreeSet::from([0, 1, 6, 7, 8, 9, 10]);
+        positions.extend(self.dictionary..=self.dictionary + self.count());
+        for routine in &self.routines {
+            positions.insert(routine.entry - 1);
+            positions.insert(routine.entry);
+        }
+        positions
+    }
+}
+
+/// "segment length odd, or W outside 16..32,767"
+fn check_1_length(bytes: &[u8]) -> Result<u32, Refusal> {
+    let words = bytes.len() / 2;
+    if bytes.len() % 2 != 0 || !(16..=32_767).contains(&words) {
+        return Err(refusal(1));
+    }
+    Ok(words as u32)
+}
+
+/// "sex bytes neither 01 00 nor 00 01"
+fn check_2_sex(bytes: &[u8]) -> Result<Sex, Refusal> {
+    match bytes.get(Segment::SEX_BYTE..Segment::SEX_BYTE + 2) {
+        Some([1, 0]) => Ok(Sex::LeastFirst),
+        Some([0, 1]) => Ok(Sex::MostFirst),
+        _ => Err(refusal(2)),
+    }
+}
+
+/// "D outside 11..W-1, n outside 1..255, or D+n at or above W"; gives n.
+fn check_5_dictionary(
+    bytes: &[u8],
+    sex: Sex,
+    words: u32,
+    dictionary: u32,
+) -> Result<u32, Refusal> {
+    if !(11..words).contains(&dictionary) {
+        return Err(refusal(5));
+    }
+    let count = word_at(bytes, sex, dictionary);
+    if !(1..=255).contains(&count) || dictionary + count >= words {
+        return Err(refusal(5));
+    }
+    Ok(count)
+}
+
+/// 6 "an entry outside 12..W-2, zero included", 7 "DATASIZE 32,768 or more",
+/// 8 "EXITIC outside 22..2W-1", with the routine number as the place.
+fn check_6_to_8_routine(
+    bytes: &[u8],
+    sex: Sex,
+    words: u32,
+    number: u32,
+    entry: u32,
+) -> Result<Routine, Refusal> {
+    let refused = |refusal_number| Refusal { number: refusal_number, place: number };
+    if !(12..=words - 2).contains(&entry) {
+        return Err(refused(6));
+    }
+    let data_size = word_at(bytes, sex, entry);
+    if data_size >= 32_768 {
+        return Err(refused(7));
+    }
+    let exit_ic = word_at(bytes, sex, entry - 1);
+    if !(22..2 * words).contains(&exit_ic) {
+        return Err(refused(8));
+    }
+    Ok(Routine { entry, data_size, exit_ic, start: 2 * (entry + 1) })
+}
+
+/// The word with a word number, in the segment's sex.  Asked for only inside
+/// the segment; 0 elsewhere makes the function total.
+fn word_at(bytes: &[u8], sex: Sex, number: u32) -> u32 {
+    let at = 2 * number as usize;
+    match (sex, bytes.get(at..at + 2)) {
+        (Sex::LeastFirst, Some(&[low, high])) => u32::from(u16::from_le_bytes([low, high])),
+        (Sex::MostFirst, Some(&[high, low])) => u32::from(u16::from_be_bytes([high, low])),
+        _ => 0,
+    }
+}
+
+/// "Turning a segment swaps the two bytes at each word position once, even if
+/// two rules name it, and copies every other byte."  Refusals 1 to 10 in that
+/// order; "turning writes the first 2W output bytes and no others", and on a
+/// refusal "output [is] then unchanged".
+pub fn turn_over(bytes: &[u8], output: &mut [u8]) -> Result<(), Refusal> {
+    let segment = Segment::judge(bytes)?;
+    // "turning: pool pointer not 0"
+    if segment.pool != 0 {
+        return Err(refusal(9));
+    }
+    // "turning: output shorter than the segment"
+    let Some(output) = output.get_mut(..bytes.len()) else {
+        return Err(refusal(10));
+    };
+    output.copy_from_slice(bytes);
+    for position in segment.word_positions() {
+        let at = 2 * position as usize;
+        if let Some([first, second]) = output.get_mut(at..at + 2) {
+            std::mem::swap(first, second);
+        }
+    }
+    Ok(())
+}
+
+/// "The reader is a bounded view of one segment with a reading place, so that
+/// no caller adds offsets by hand."  `None` from any of its functions means
+/// "an instruction byte outside 22..2W-1", which is fault 1.
+#[derive(Clone, Copy, Debug, PartialEq, Eq)]
+pub struct Reader<'a> {
+    pub bytes: &'a [u8],
+    pub place: u32,
+}
+
+impl<'a> Reader<'a> {
+    pub fn at(segment: &Segment<'a>, place: u32) -> Reader<'a> {
+        Reader { bytes: segment.bytes, place }
+    }
+
+    /// One byte of 22..2W-1, and on to the next.
+    pub fn byte(&mut self) -> Option<u8> {
+        if self.place < Segment::FIRST_CODE_BYTE {
+            return None;
+        }
+        let byte = *self.bytes.get(self.place as usize)?;
+        self.place += 1;
+        Some(byte)
+    }
+
+    /// 000: "UB: Represents a positive integer in the range 0 through 255."
+    pub fn ub(&mut self) -> Option<u32> {
+        self.byte().map(u32::from)
+    }
+
+    /// 000: "SB: Represents a two's complement 8-bit integer in the range -128
+    /// through 127."
+    pub fn sb(&mut self) -> Option<i32> {
+        self.byte().map(|byte| i32::from(byte as i8))
+    }
+
+    /// 000: "DB: Represents a positive integer in the range 0 through 127."
+    /// Here the byte as it stands, 0 to 255: "All operands are fetched before
+    /// a DB is judged."
+    pub fn db(&mut self) -> Option<u32> {
+        self.byte().map(u32::from)
+    }
+
+    /// 000: "B: If bit 7 of the first byte is 0, the remaining 7 bits
+    /// represent a positive integer in the range 0 through 127.  If bit 7 of
+    /// the first byte is 1, then bit 7 should be cleared; the first byte is
+    /// the high-order byte of a 16-bit word, and the following byte is the
+    /// low-order byte of that word."
+    pub fn b(&mut self) -> Option<u32> {
+        let first = self.byte()?;
+        if first < 128 {
+            return Some(u32::from(first));
+        }
+        let low = self.byte()?;
+        Some(u32::from(u16::from_be_bytes([first - 128, low])))
+    }
+
+    /// 000: "W: a 16-bit two's complement value [...].  The word is always
+    /// least-significant-byte-first."  01: "Instruction operands are never
+    /// swapped".
+    pub fn w(&mut self) -> Option<i32> {
+        let low = self.byte()?;
+        let high = self.byte()?;
+        Some(i32::from(i16::from_le_bytes([low, high])))
+    }
+}
