@@ -74,10 +74,7 @@ pub fn cpu_ok(code: &[u8], len: usize, c: Cpu) -> bool
     let counter = c.regs.counter;
     let routine = c.regs.routine;
     let k = c.kind;
-    let g = both(
-        at_most(routine, head.count as usize),
-        kind_ok(code, k),
-    );
+    let g = both(at_most(routine, head.count as usize), kind_ok(code, k));
     let f = both(at_most(counter, code.len()), both(at_most(1, routine), g));
     let e = both(ends_by(m, 5, len), both(at_most(22, counter), f));
     let d = both(at_most(sp, len), both(at_most(1, m), e));

@@ -82,9 +82,27 @@ returns : tie.Need-returns
 unfolding cpuOk kindOk inRange every
 returns c =
     simp (
-      c .both9 .ensures, c .before .both8 .ensures, c .before .before .before .before .both7 .ensures, c .before .before .before .before .before .both6 .ensures, c .before .before .before .before .before .before .before .before .both5 .ensures, c .before .before .before .before .before .before .before .before .before .both4 .ensures, c .before .before .before .before .before .before .before .before .before .before .before .before .both3 .ensures, c .before .before .before .before .before .before .before .before .before .before .before .before .before .both2 .ensures, c .before .before .before .before .before .before .before .before .before .before .before .before .before .before .before .before .both .ensures,
-      c .before .before .at-most8 .ensures, c .before .before .before .at-most7 .ensures, c .before .before .before .before .before .before .at-most6 .ensures, c .before .before .before .before .before .before .before .at-most5 .ensures, c .before .before .before .before .before .before .before .before .before .before .at-most4 .ensures, c .before .before .before .before .before .before .before .before .before .before .before .before .before .before .at-most3 .ensures, c .before .before .before .before .before .before .before .before .before .before .before .before .before .before .before .at-most2 .ensures, c .before .before .before .before .before .before .before .before .before .before .before .before .before .before .before .before .before .before .at-most .ensures,
-      c .before .before .before .before .before .before .before .before .before .before .before .ends-by .ensures, c .before .before .before .before .before .before .before .before .before .before .before .before .before .before .before .before .before .kind-ok .ensures, c .before .before .before .before .before .before .before .before .before .before .before .before .before .before .before .before .before .before .before .before .head .ensures, c .before .before .before .before .before .before .before .before .before .before .before .before .before .before .before .before .before .before .before .before .before .before .routine-of .ensures,
+      c .both9 .ensures,
+      c .before .both8 .ensures,
+      c .before .before .before .before .both7 .ensures,
+      c .before .before .before .before .before .both6 .ensures,
+      c .before .before .before .before .before .before .before .before .both5 .ensures,
+      c .before .before .before .before .before .before .before .before .before .both4 .ensures,
+      c .before .before .before .before .before .before .before .before .before .before .before .before .both3 .ensures,
+      c .before .before .before .before .before .before .before .before .before .before .before .before .before .both2 .ensures,
+      c .before .before .before .before .before .before .before .before .before .before .before .before .before .before .before .before .both .ensures,
+      c .before .before .at-most8 .ensures,
+      c .before .before .before .at-most7 .ensures,
+      c .before .before .before .before .before .before .at-most6 .ensures,
+      c .before .before .before .before .before .before .before .at-most5 .ensures,
+      c .before .before .before .before .before .before .before .before .before .before .at-most4 .ensures,
+      c .before .before .before .before .before .before .before .before .before .before .before .before .before .before .at-most3 .ensures,
+      c .before .before .before .before .before .before .before .before .before .before .before .before .before .before .before .at-most2 .ensures,
+      c .before .before .before .before .before .before .before .before .before .before .before .before .before .before .before .before .before .before .at-most .ensures,
+      c .before .before .before .before .before .before .before .before .before .before .before .ends-by .ensures,
+      c .before .before .before .before .before .before .before .before .before .before .before .before .before .before .before .before .before .kind-ok .ensures,
+      c .before .before .before .before .before .before .before .before .before .before .before .before .before .before .before .before .before .before .before .before .head .ensures,
+      c .before .before .before .before .before .before .before .before .before .before .before .before .before .before .before .before .before .before .before .before .before .before .routine-of .ensures,
     )
 
 pub cpu-ok-spec : {M : Type 1} → statement M

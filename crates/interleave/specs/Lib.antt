@@ -1,0 +1,2 @@
+-- Interleaved requests, in general. Above: isolation. Below: nothing.
+pub mod Interleave

@@ -1,0 +1,216 @@
+-- THE ISOLATION THEOREM: `isolation` is a proof of what specs/Isolation says, by the general theorem of interleave at the bench's turns.
+-- Above: nothing. Below: Acts, interleave, and the laws that turns add up.
+use mathlib.Core.Path.{_≡_, refl, sym, ap, _∙_}
+use mathlib.Core.List.{List, [], _∷_, map}
+use mathlib.Core.Bool.{Bool, true, false, cond}
+use Prim.Native.Nat.{ℕ, zero, suc, _+_, _≤_, _<_}
+use native.Mathlib.Nat.{zero-add}
+use lib.Dec.{leb}
+use Rattle.interleave.specs.Interleave.{By, mine, oneByOne, Below, acts, answers, alone, aloneSays, Interleaved, Alike, TwoRuns}
+use Rattle.interleave.proofs.Interleave.{interleaved, two-runs}
+use Rattle.sound.specs.Below.{State, Cpu, stateOf, cpuOf, runOf, countOf}
+use Rattle.sound.specs.Bench.{World, sessionAt, sharedOf, wordsOf, codeAt, stateAt, at-cpu}
+use Rattle.sound.specs.Sound.{Sound}
+use Rattle.sound.proofs.Below.{state-again, run-none, run-add, count-none, count-add}
+use Rattle.bench.specs.declared.Answer.{Answer}
+use Rattle.bench.specs.declared.Answer.the-variants.{Done, Refused}
+use Rattle.bench.specs.Answer.{valueOf}
+use Rattle.bench.specs.Entries.{ranOf, doneOf, turnOf}
+use Rattle.isolation.specs.Isolation.{Turn, after, answersOf, stepsOf, reported, reportsOf, OnItsOwn, Agree, Isolation}
+use Rattle.isolation.proofs.Parts.{Public, Private, publicOf, privateOf, ownState, at-state}
+use Rattle.isolation.proofs.Acts.{codeIn, nextOf, saysOf, next-runs, next-16, next-12, says-runs, says-16, says-12, own-state-is, ran-is, turns}
+
+-- the turns of specs/Isolation are the requests of interleave
+after-acts : (store : List ℕ) (ts : List Turn) (w : World) → after store ts w ≡ acts (turns store) ts w
+after-acts store [] w = refl
+after-acts store (t ∷ ts) w = after-acts store ts (turnOf store (t .who) (t .what) w .world)
+
+answers-are : (store : List ℕ) (ts : List Turn) (w : World) → answersOf store ts w ≡ answers (turns store) ts w
+answers-are store [] w = refl
+answers-are store (t ∷ ts) w =
+    ap (λ (l : List (By Answer)). record { who = t .who; what = turnOf store (t .who) (t .what) w .answer } ∷ l)
+    (answers-are store ts (turnOf store (t .who) (t .what) w .world))
+
+in-turn : (store : List ℕ) (ts : List Turn) (w : World) → map (λ (a : By Answer). a .who) (answersOf store ts w) ≡ map (λ (t : Turn). t .who) ts
+in-turn store [] w = refl
+in-turn store (t ∷ ts) w = ap (λ (l : List ℕ). t .who ∷ l) (in-turn store ts (turnOf store (t .who) (t .what) w .world))
+
+-- ---- (b): a session by itself, not open and open
+
+alone-refused : (store : List ℕ) (c : Public) (ks : List ℕ) (p : Private) → p .rec .used ≡ false → aloneSays (turns store) c ks p ≡ map (λ (k : ℕ). Refused 12 0) ks
+alone-refused store c [] p u = refl
+alone-refused store c (k ∷ ks) p u =
+    rw (next-12 store c k p u, says-12 store c k p u) (ap (λ (l : List Answer). Refused 12 0 ∷ l) (alone-refused store c ks p u))
+
+module _ (code shared : List ℕ) where
+  counts-by : (k : ℕ) (ks : List ℕ) (st : State) (b : Bool) → leb k 65535 ≡ b → ((s : State) → reported (reportsOf code shared ks s) ≡ countOf (stepsOf ks) code shared s) → reported (cond b (Done (countOf k code shared st) ∷ reportsOf code shared ks (runOf k code shared st)) (Refused 16 0 ∷ reportsOf code shared ks st)) ≡ countOf (cond b k 0 + stepsOf ks) code shared st
+  counts-by k ks st true h r =
+      ap (λ (n : ℕ). countOf k code shared st + n) (r (runOf k code shared st)) ∙ sym (count-add k (stepsOf ks) code shared st)
+  counts-by k ks st false h r = rw (zero-add (stepsOf ks), zero-add) (r st)
+
+  -- what the machine reports is the count of all its steps
+  counts-are : (ks : List ℕ) (st : State) → reported (reportsOf code shared ks st) ≡ countOf (stepsOf ks) code shared st
+  counts-are [] st = sym (count-none code shared st)
+  counts-are (k ∷ ks) st = counts-by k ks st (leb k 65535) refl (λ s. counts-are ks s)
+
+module _ (store : List ℕ) (c : Public) where
+  machine : ℕ → Private → State
+  machine k p = runOf k (codeIn store c p) (c .shared) (ownState p)
+
+  runs-by : (k : ℕ) (ks : List ℕ) (p : Private) → p .rec .used ≡ true → (b : Bool) → leb k 65535 ≡ b → ((q : Private) → q .rec .used ≡ true → alone (turns store) c ks q ≡ at-state q (machine (stepsOf ks) q)) → alone (turns store) c ks (nextOf store c k p) ≡ at-state p (machine (cond b k 0 + stepsOf ks) p)
+  unfolding machine
+  runs-by k ks p u true h r =
+      rw (next-runs store c k p u h)
+      (r (at-state p (machine k p)) u
+      ∙ ap (λ (st : State). at-state p (runOf (stepsOf ks) (codeIn store c p) (c .shared) st)) (state-again (machine k p))
+      ∙ ap (at-state p) (sym (run-add k (stepsOf ks) (codeIn store c p) (c .shared) (ownState p))))
+  runs-by k ks p u false h r = rw (next-16 store c k p u h, zero-add (stepsOf ks)) (r p u)
+
+  alone-runs : (ks : List ℕ) (p : Private) → p .rec .used ≡ true → alone (turns store) c ks p ≡ at-state p (machine (stepsOf ks) p)
+  unfolding machine
+  alone-runs [] p u = sym (ap (at-state p) (run-none (codeIn store c p) (c .shared) (ownState p)))
+  alone-runs (k ∷ ks) p u = runs-by k ks p u (leb k 65535) refl (λ q v. alone-runs ks q v)
+
+  says-by : (k : ℕ) (ks : List ℕ) (p : Private) → p .rec .used ≡ true → (b : Bool) → leb k 65535 ≡ b → ((q : Private) → q .rec .used ≡ true → aloneSays (turns store) c ks q ≡ reportsOf (codeIn store c q) (c .shared) ks (ownState q)) → saysOf store c k p ∷ aloneSays (turns store) c ks (nextOf store c k p) ≡ cond b (Done (countOf k (codeIn store c p) (c .shared) (ownState p)) ∷ reportsOf (codeIn store c p) (c .shared) ks (runOf k (codeIn store c p) (c .shared) (ownState p))) (Refused 16 0 ∷ reportsOf (codeIn store c p) (c .shared) ks (ownState p))
+  unfolding machine
+  says-by k ks p u true h r =
+      rw (next-runs store c k p u h, says-runs store c k p u h)
+      (ap (λ (l : List Answer). Done (countOf k (codeIn store c p) (c .shared) (ownState p)) ∷ l)
+      (r (at-state p (machine k p)) u
+      ∙ ap (λ (st : State). reportsOf (codeIn store c p) (c .shared) ks st) (state-again (machine k p))))
+  says-by k ks p u false h r =
+      rw (next-16 store c k p u h, says-16 store c k p u h) (ap (λ (l : List Answer). Refused 16 0 ∷ l) (r p u))
+
+  alone-says : (ks : List ℕ) (p : Private) → p .rec .used ≡ true → aloneSays (turns store) c ks p ≡ reportsOf (codeIn store c p) (c .shared) ks (ownState p)
+  alone-says [] p u = refl
+  alone-says (k ∷ ks) p u = says-by k ks p u (leb k 65535) refl (λ q v. alone-says ks q v)
+
+module _ (store : List ℕ) (ts : List Turn) (w : World) (g : Sound store w) (i : ℕ) (u : sessionAt w i .used ≡ true) where
+  own-end : privateOf i (after store ts w) ≡ at-state (privateOf i w) (ranOf store i (stepsOf (mine i ts)) w)
+  unfolding machine
+  own-end =
+      rw (after-acts store ts w)
+      (interleaved (turns store) .own-state ts w g i
+      ∙ alone-runs store (publicOf w) (mine i ts) (privateOf i w) u
+      ∙ ap (at-state (privateOf i w)) (ran-is store i (stepsOf (mine i ts)) w g u))
+
+  own-rec : sessionAt (after store ts w) i ≡ at-cpu (sessionAt w i) (cpuOf (ranOf store i (stepsOf (mine i ts)) w))
+  own-rec = ap (λ (p : Private). p .rec) own-end
+
+  own-says : mine i (answersOf store ts w) ≡ reportsOf (codeAt store w i) (sharedOf w) (mine i ts) (stateAt w i)
+  own-says =
+      rw (answers-are store ts w)
+      (interleaved (turns store) .own-answers ts w g i
+      ∙ alone-says store (publicOf w) (mine i ts) (privateOf i w) u
+      ∙ ap (λ (st : State). reportsOf (codeAt store w i) (sharedOf w) (mine i ts) st) (own-state-is store i 0 w g u))
+
+  on-its-own : OnItsOwn store ts w i
+  on-its-own =
+      record {
+        words = rw (own-rec, u) at (ap (λ (p : Private). p .words) own-end);
+        registers = own-rec;
+        answers = own-says;
+        counts = ap reported own-says ∙ counts-are (codeAt store w i) (sharedOf w) (mine i ts) (stateAt w i);
+      }
+
+-- ---- (c): two sessions that see alike
+
+record Seen (store store′ : List ℕ) (c : Public) (p : Private) (d : Public) (r : Private) : Type 0 where
+  open-here : p .rec .used ≡ true
+  open-there : r .rec .used ≡ true
+  cpu : p .rec .cpu ≡ r .rec .cpu
+  words : p .words ≡ r .words
+  code : codeIn store c p ≡ codeIn store′ d r
+  shared : c .shared ≡ d .shared
+
+module _ (store store′ : List ℕ) (c : Public) (p : Private) (d : Public) (r : Private) (k : ℕ) (s : Seen store store′ c p d r) where
+  same-run : runOf k (codeIn store c p) (c .shared) (ownState p) ≡ runOf k (codeIn store′ d r) (d .shared) (ownState r)
+  same-run j = runOf k (s .code j) (s .shared j) (stateOf (s .words j) (s .cpu j))
+
+  same-count : countOf k (codeIn store c p) (c .shared) (ownState p) ≡ countOf k (codeIn store′ d r) (d .shared) (ownState r)
+  same-count j = countOf k (s .code j) (s .shared j) (stateOf (s .words j) (s .cpu j))
+
+  still-by : (b : Bool) → leb k 65535 ≡ b → Seen store store′ c (nextOf store c k p) d (nextOf store′ d k r)
+  still-by true h =
+      rw (next-runs store c k p (s .open-here) h, next-runs store′ d k r (s .open-there) h)
+      (record {
+        open-here = s .open-here;
+        open-there = s .open-there;
+        cpu = ap cpuOf same-run;
+        words = ap (λ (st : State). st .words) same-run;
+        code = s .code;
+        shared = s .shared;
+      })
+  still-by false h = rw (next-16 store c k p (s .open-here) h, next-16 store′ d k r (s .open-there) h) s
+
+  speak-by : (b : Bool) → leb k 65535 ≡ b → saysOf store c k p ≡ saysOf store′ d k r
+  speak-by true h =
+      says-runs store c k p (s .open-here) h ∙ ap Done same-count ∙ sym (says-runs store′ d k r (s .open-there) h)
+  speak-by false h = says-16 store c k p (s .open-here) h ∙ sym (says-16 store′ d k r (s .open-there) h)
+
+alike : (store store′ : List ℕ) → Alike (turns store) (turns store′)
+alike store store′ =
+    record {
+      Same = Seen store store′;
+      still = λ c p d r k s. still-by store store′ c p d r k s (leb k 65535) refl;
+      speak = λ c p d r k s. speak-by store store′ c p d r k s (leb k 65535) refl;
+    }
+
+module _ (store store′ : List ℕ) (w w′ : World) (i j : ℕ) where
+  seen : Agree store w i store′ w′ j → Seen store store′ (publicOf w) (privateOf i w) (publicOf w′) (privateOf j w′)
+  seen a =
+      record {
+        open-here = a .open-here;
+        open-there = a .open-there;
+        cpu = a .cpu;
+        words = rw (a .open-here, a .open-there) (a .words);
+        code = a .code;
+        shared = a .shared;
+      }
+
+  agree : Seen store store′ (publicOf w) (privateOf i w) (publicOf w′) (privateOf j w′) → Agree store w i store′ w′ j
+  agree s =
+      record {
+        open-here = s .open-here;
+        open-there = s .open-there;
+        cpu = s .cpu;
+        words = rw (s .open-here, s .open-there) at (s .words);
+        code = s .code;
+        shared = s .shared;
+      }
+
+-- ---- all of it
+
+pub isolation : Isolation
+unfolding alike
+isolation =
+    record {
+      in-turn = in-turn;
+      stays-sound = λ store ts w g. rw (after-acts store ts w) (interleaved (turns store) .good-kept ts w g);
+      in-any-order =
+          λ store ts us w g m.
+          after-acts store ts w ∙ interleaved (turns store) .any-mix ts us w g m ∙ sym (after-acts store us w);
+      same-answers =
+          λ store ts us w g m i.
+          rw (answers-are store ts w, answers-are store us w) (interleaved (turns store) .any-mix-answers ts us w g m i);
+      one-after-another =
+          λ store n ts w g b.
+          after-acts store ts w ∙ interleaved (turns store) .one-by-one n ts w b g ∙ sym (after-acts store (oneByOne n ts) w);
+      one-after-another-answers =
+          λ store n ts w g b i.
+          rw (answers-are store ts w, answers-are store (oneByOne n ts) w) (interleaved (turns store) .one-by-one-answers n ts w b g i);
+      on-its-own = on-its-own;
+      not-open =
+          λ store ts w g i u.
+          rw (answers-are store ts w)
+          (interleaved (turns store) .own-answers ts w g i ∙ alone-refused store (publicOf w) (mine i ts) (privateOf i w) u);
+      two-runs =
+          λ store store′ ts us w w′ i j g h m a.
+          rw (answers-are store ts w, answers-are store′ us w′)
+          (two-runs (turns store) (turns store′) (alike store store′) .same-answers ts us w w′ i j g h m (seen store store′ w w′ i j a));
+      two-ends =
+          λ store store′ ts us w w′ i j g h m a.
+          rw (after-acts store ts w, after-acts store′ us w′)
+          (agree store store′ (acts (turns store) ts w) (acts (turns store′) us w′) i j
+          (two-runs (turns store) (turns store′) (alike store store′) .same-end ts us w w′ i j g h m (seen store store′ w w′ i j a)));
+    }

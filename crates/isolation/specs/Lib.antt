@@ -1,0 +1,2 @@
+-- Isolation of sessions. Below: bench, interleave.
+pub mod Isolation

@@ -1,0 +1,7 @@
+-- The proofs of the promises.
+pub mod Kept
+pub mod Refused
+pub mod Zeros
+pub mod Openings
+pub mod Closings
+pub mod Promises

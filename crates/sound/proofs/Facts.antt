@@ -1,0 +1,171 @@
+-- What a sound bench gives, as numbers: facts of the memory, of a slot, of one open session, of two; and what keeps it sound.
+-- Above: bench, isolation. Below: specs/Sound, Lists.
+use mathlib.Core.Path.{_≡_, refl, sym, ap, _∙_}
+use mathlib.Core.List.{List, [], _∷_}
+use mathlib.Core.Bool.{Bool, true, false, _&&_, _||_, not, false≢true}
+use Prim.Native.Nat.{ℕ, zero, suc, _+_, _-_, _≤_, _<_}
+use native.Mathlib.Omega.{arith}
+use native.Mathlib.Decide.{decLt}
+use lib.Dec.{leb, eqb}
+use lib.ListN.{length, getD, set, length-set, List·getD-eq-default}
+use borrow.Author.Tests.{leb-true, eqb-true, le-leb}
+use Rattle.basis.specs.Bools.{every, Holds}
+use Rattle.basis.proofs.Bools.{every-holds, holds-every, or-cases}
+use Rattle.sound.specs.Below.{judged, accepted, Accepted, Cpu, cpuOk}
+use Rattle.sound.specs.Bench.{codeOf, slotAt, slotOf, noSlot, noSession, World, sessionAt, codeAt, at-cpu, at-sessions}
+use Rattle.sound.specs.Sound.{all, limitsOk, slotOk, placed, apart, allApart, sessionOk, soundB, Sound}
+use Rattle.sound.specs.declared.Slot.{Slot}
+use Rattle.sound.specs.declared.Session.{Session}
+use Rattle.sound.specs.declared.Bench.{Bench}
+use Rattle.sound.proofs.Below.{accepted-is}
+use Rattle.sound.proofs.Lists.{all-at, all-set, apart-at, apart-set}
+
+-- the test taken apart
+pub record Parts (b : Bench) (m store : List ℕ) : Type 0 where
+  pub limits : limitsOk (b .n) (b .s) ≡ true
+  pub sized : eqb (length m) (b .n) ≡ true
+  pub slots : all (slotOk store) (b .slots) ≡ true
+  pub places : all (placed (b .n) (b .s)) (b .sessions) ≡ true
+  pub lone : allApart (b .sessions) ≡ true
+  pub sessions : all (sessionOk store (b .slots)) (b .sessions) ≡ true
+
+module _ (b : Bench) (m store : List ℕ) where
+  pub taken-apart : soundB b m store ≡ true → Parts b m store
+  unfolding soundB
+  taken-apart h =
+      let a = every-holds _ h in
+      record {
+        limits = a .0;
+        sized = a .1 .0;
+        slots = a .1 .1 .0;
+        places = a .1 .1 .1 .0;
+        lone = a .1 .1 .1 .1 .0;
+        sessions = a .1 .1 .1 .1 .1 .0;
+      }
+
+  pub put-together : Parts b m store → soundB b m store ≡ true
+  unfolding soundB
+  put-together p =
+      holds-every _ (p .limits, (p .sized, (p .slots, (p .places, (p .lone, (p .sessions, tt))))))
+
+pub record Limits (n s : ℕ) : Type 0 where
+  pub words : n ≤ 1048576
+  pub few : s ≤ 32768
+  pub within : s ≤ n
+
+pub limits : (n s : ℕ) → limitsOk n s ≡ true → Limits n s
+unfolding limitsOk
+limits n s h =
+    let a = every-holds _ h in
+    record { words = leb-true _ _ (a .0); few = leb-true _ _ (a .1 .0); within = leb-true _ _ (a .1 .1 .0) }
+
+-- what soundness says of a session that is open
+pub record Opened (store : List ℕ) (w : World) (se : Session) : Type 0 where
+  pub slot-low : se .slot ≤ 15
+  pub loaded : slotOf (w .bench .slots) se .loaded ≡ true
+  pub above : w .bench .s ≤ se .base
+  pub inside : se .base + se .len ≤ length (w .mem)
+  pub least : 16 ≤ se .len
+  pub most : se .len ≤ 32768
+  pub checked : judged (codeOf store (slotOf (w .bench .slots) se)) ≡ Accepted
+  pub cpu-ok : cpuOk (codeOf store (slotOf (w .bench .slots) se)) (se .len) (se .cpu) ≡ true
+
+module _ (store : List ℕ) (w : World) (g : Sound store w) where
+  pub parts : Parts (w .bench) (w .mem) store
+  parts = taken-apart (w .bench) (w .mem) store (g .sound)
+
+  pub kept : Limits (w .bench .n) (w .bench .s)
+  kept = limits (w .bench .n) (w .bench .s) (parts .limits)
+
+  pub long : length (w .mem) ≡ w .bench .n
+  long = eqb-true (length (w .mem)) (w .bench .n) (parts .sized)
+
+  pub few-shared : w .bench .s ≤ 32768
+  few-shared = kept .few
+
+  pub shared-in : w .bench .s ≤ length (w .mem)
+  shared-in = rw long (kept .within)
+
+  below-by : (i : ℕ) → Dec (i < 16) → sessionAt w i .used ≡ true → i < 16
+  below-by i (yes h) u = h
+  below-by i (no h) u =
+      absurd (false≢true (sym (ap (λ (se : Session). se .used) (List·getD-eq-default (w .bench .sessions) noSession {n = i} (rw (g .sixteen) (omega arith)))) ∙ u))
+
+  -- an open session is one of the sixteen
+  pub used-below : (i : ℕ) → sessionAt w i .used ≡ true → i < 16
+  used-below i u = below-by i (decLt i 16) u
+
+  pub used-in : (i : ℕ) → sessionAt w i .used ≡ true → i < length (w .bench .sessions)
+  used-in i u = rw (g .sixteen) (used-below i u)
+
+  slot-by : (j : ℕ) → Dec (j < length (w .bench .slots)) → slotAt (w .bench .slots) j .loaded ≡ true → judged (codeOf store (slotAt (w .bench .slots) j)) ≡ Accepted
+  unfolding slotOk
+  slot-by j (yes o) h =
+      let q = all-at (slotOk store) (w .bench .slots) j noSlot (parts .slots) o in
+      accepted-is _ (every-holds _ (rw h at q) .1 .0)
+  slot-by j (no o) h =
+      absurd (false≢true (sym (ap (λ (sl : Slot). sl .loaded) (List·getD-eq-default (w .bench .slots) noSlot {n = j} (omega arith))) ∙ h))
+
+  -- a loaded slot's bytes pass the checks
+  pub slot-good : (j : ℕ) → slotAt (w .bench .slots) j .loaded ≡ true → judged (codeOf store (slotAt (w .bench .slots) j)) ≡ Accepted
+  slot-good j h = slot-by j (decLt j (length (w .bench .slots))) h
+
+  pub opened : (i : ℕ) → sessionAt w i .used ≡ true → Opened store w (sessionAt w i)
+  unfolding sessionOk placed
+  opened i u =
+      let h = all-at (sessionOk store (w .bench .slots)) (w .bench .sessions) i noSession (parts .sessions) (used-in i u) in
+      let k = all-at (placed (w .bench .n) (w .bench .s)) (w .bench .sessions) i noSession (parts .places) (used-in i u) in
+      let a = every-holds _ (rw u at h) in
+      let b = every-holds _ (rw u at k) in
+      record {
+        slot-low = leb-true _ _ (a .0);
+        loaded = a .1 .0;
+        above = leb-true _ _ (b .0);
+        inside = rw long (leb-true _ _ (b .1 .0));
+        least = leb-true _ _ (a .1 .1 .0);
+        most = leb-true _ _ (a .1 .1 .1 .0);
+        checked = slot-good (sessionAt w i .slot) (a .1 .0);
+        cpu-ok = a .1 .1 .1 .1 .0;
+      }
+
+  apart-of : (a b : Session) → a .used ≡ true → b .used ≡ true → apart a b ≡ true → {P : Type 0} → (a .base + a .len ≤ b .base → P) → (b .base + b .len ≤ a .base → P) → P
+  unfolding apart
+  apart-of a b ua ub h {P} f k =
+      or-cases (leb (a .base + a .len) (b .base)) (leb (b .base + b .len) (a .base)) (rw (ua, ub) at h)
+      (λ e. f (leb-true _ _ e))
+      (λ e. k (leb-true _ _ e))
+
+  apart-by : (i j : ℕ) → Dec (i < j) → (j ≡ i → ⊥) → sessionAt w i .used ≡ true → sessionAt w j .used ≡ true → {P : Type 0} → (sessionAt w i .base + sessionAt w i .len ≤ sessionAt w j .base → P) → (sessionAt w j .base + sessionAt w j .len ≤ sessionAt w i .base → P) → P
+  apart-by i j (yes h) d ui uj {P} f k =
+      apart-of (sessionAt w i) (sessionAt w j) ui uj
+      (apart-at (w .bench .sessions) i j noSession (parts .lone) h (used-in j uj))
+      f k
+  apart-by i j (no h) d ui uj {P} f k =
+      apart-of (sessionAt w j) (sessionAt w i) uj ui
+      (apart-at (w .bench .sessions) j i noSession (parts .lone) (omega arith) (used-in i ui))
+      k f
+
+  -- two open sessions' regions: the one ends by the other's start
+  pub apart-good : (i j : ℕ) → (j ≡ i → ⊥) → sessionAt w i .used ≡ true → sessionAt w j .used ≡ true → {P : Type 0} → (sessionAt w i .base + sessionAt w i .len ≤ sessionAt w j .base → P) → (sessionAt w j .base + sessionAt w j .len ≤ sessionAt w i .base → P) → P
+  apart-good i j d ui uj f k = apart-by i j (decLt i j) d ui uj f k
+
+  -- other registers, in their ranges, in the record of an open session; and a memory of as many words
+  pub registers-good : (i : ℕ) → sessionAt w i .used ≡ true → (c : Cpu) (m : List ℕ) → length m ≡ length (w .mem) → cpuOk (codeAt store w i) (sessionAt w i .len) c ≡ true → Sound store (record { bench = at-sessions (w .bench) (set (w .bench .sessions) i (at-cpu (sessionAt w i) c)); mem = m })
+  unfolding sessionOk placed
+  registers-good i u c m l h =
+      let f = opened i u in
+      let old = all-at (sessionOk store (w .bench .slots)) (w .bench .sessions) i noSession (parts .sessions) (used-in i u) in
+      let new : sessionOk store (w .bench .slots) (at-cpu (sessionAt w i) c) ≡ true = rw u (holds-every _ (le-leb _ _ (f .slot-low), (f .loaded, (le-leb _ _ (f .least), (le-leb _ _ (f .most), (h, tt)))))) in
+      record {
+        sixteen = length-set (w .bench .sessions) i (at-cpu (sessionAt w i) c) ∙ g .sixteen;
+        sound =
+            put-together (at-sessions (w .bench) (set (w .bench .sessions) i (at-cpu (sessionAt w i) c))) m store
+            (record {
+              limits = parts .limits;
+              sized = rw l (parts .sized);
+              slots = parts .slots;
+              places = all-set (placed (w .bench .n) (w .bench .s)) (w .bench .sessions) i noSession (at-cpu (sessionAt w i) c) refl ∙ parts .places;
+              lone = apart-set (w .bench .sessions) i noSession c ∙ parts .lone;
+              sessions = all-set (sessionOk store (w .bench .slots)) (w .bench .sessions) i noSession (at-cpu (sessionAt w i) c) (new ∙ sym old) ∙ parts .sessions;
+            });
+      }

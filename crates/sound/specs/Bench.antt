@@ -1,0 +1,67 @@
+-- What the bench holds, in the words of document 01. The types Slot, Session and Bench are those of the program.
+-- Above: Sound, and the entries of crate bench. Below: specs/Below for a session's state.
+use mathlib.Core.List.{List}
+use mathlib.Core.Bool.{false}
+use Prim.Native.Nat.{ℕ, _+_}
+use lib.ListN.{getD, take, drop}
+use Rattle.basis.specs.Part.{part}
+use Rattle.sound.specs.Below.{State, Cpu, stateOf, noCpu}
+use Rattle.sound.specs.declared.Slot.{Slot}
+use Rattle.sound.specs.declared.Session.{Session}
+use Rattle.sound.specs.declared.Bench.{Bench}
+
+-- "A bench has 16 segment slots and 16 session records": a slot that is not loaded, a record that is not used. All zero.
+abbrev pub noSlot : Slot
+noSlot = record { loaded = false; start = 0; len = 0 }
+
+abbrev pub noSession : Session
+noSession = record { used = false; slot = 0; base = 0; len = 0; cpu = noCpu }
+
+-- "The caller lends a code store (bytes)": those that a slot names, as many of them as there are
+abbrev pub codeOf : List ℕ → Slot → List ℕ
+codeOf store sl = take (sl .len) (drop (sl .start) store)
+
+-- the slot of a number, and the slot that a session names; past the last, one that is not loaded
+abbrev pub slotAt : List Slot → ℕ → Slot
+slotAt slots i = getD slots i noSlot
+
+abbrev pub slotOf : List Slot → Session → Slot
+slotOf slots se = slotAt slots (se .slot)
+
+-- a bench with the memory that it is used with; the code store stands beside them, and no entry changes it
+pub record World : Type 0 where
+  pub bench : Bench
+  pub mem : List ℕ
+
+abbrev pub worldOf : Bench → List ℕ → World
+worldOf b m = record { bench = b; mem = m }
+
+-- session record i; past the last, one that is not used
+abbrev pub sessionAt : World → ℕ → Session
+sessionAt w i = getD (w .bench .sessions) i noSession
+
+-- "The first S words are shared"
+abbrev pub sharedOf : World → List ℕ
+sharedOf w = take (w .bench .s) (w .mem)
+
+-- the words of a session's region
+abbrev pub wordsOf : World → Session → List ℕ
+wordsOf w se = part (se .base) (se .base + se .len) (w .mem)
+
+-- the code that session i runs, and its state
+abbrev pub codeAt : List ℕ → World → ℕ → List ℕ
+codeAt store w i = codeOf store (slotOf (w .bench .slots) (sessionAt w i))
+
+abbrev pub stateAt : World → ℕ → State
+stateAt w i = stateOf (wordsOf w (sessionAt w i)) (sessionAt w i .cpu)
+
+-- a session's record at other registers: slot and region stay
+abbrev pub at-cpu : Session → Cpu → Session
+at-cpu se c = record { used = se .used; slot = se .slot; base = se .base; len = se .len; cpu = c }
+
+-- the bench with other session records, and with other slots
+abbrev pub at-sessions : Bench → List Session → Bench
+at-sessions b l = record { n = b .n; s = b .s; slots = b .slots; sessions = l }
+
+abbrev pub at-slots : Bench → List Slot → Bench
+at-slots b l = record { n = b .n; s = b .s; slots = l; sessions = b .sessions }

@@ -1,0 +1,79 @@
+// Soundness of the regions: each lies above the shared words and inside memory, and no two overlap.
+// Above: the test in lib. Below: the small tests of word.
+ghost use mathlib.Core.Path.{_≡_};
+ghost use Prim.Native.Nat.{_≤_};
+ghost use lib.ListN.{drop};
+ghost use Rattle.sound.specs.Sound.{all, placed, apart, allApart};
+use super::Session;
+use word::at_most;
+use word::both;
+use word::either;
+use word::ends_by;
+
+fn is_placed(n: usize, s: usize, se: Session) -> bool
+    ensures { λ r. ⌜ r ≡ placed n s se ⌝ }
+{
+    if !se.used {
+        return true;
+    }
+    both(at_most(s, se.base), ends_by(se.base, se.len, n))
+}
+
+pub fn all_placed(n: usize, s: usize, sessions: [Session; 16]) -> bool
+    ensures { λ r. ⌜ r ≡ all (placed n s) sessions ⌝ }
+{
+    let mut i: usize = 0;
+    while i < 16 {
+        let se = sessions[i];
+        if !is_placed(n, s, se) {
+            return false;
+        }
+        i += 1;
+    }
+    true
+}
+
+fn are_apart(a: Session, b: Session) -> bool
+    ensures { λ r. ⌜ r ≡ apart a b ⌝ }
+{
+    if !a.used {
+        return true;
+    }
+    if !b.used {
+        return true;
+    }
+    either(
+        ends_by(a.base, a.len, b.base),
+        ends_by(b.base, b.len, a.base),
+    )
+}
+
+// Whether session a is apart from every session from number `from` on.
+fn apart_from(a: Session, sessions: [Session; 16], from: usize) -> bool
+    requires { ⌜ from ≤ 16 ⌝ }
+    ensures { λ r. ⌜ r ≡ all (apart a) (drop from sessions) ⌝ }
+{
+    let mut i = from;
+    while i < 16 {
+        let se = sessions[i];
+        if !are_apart(a, se) {
+            return false;
+        }
+        i += 1;
+    }
+    true
+}
+
+pub fn all_apart(sessions: [Session; 16]) -> bool
+    ensures { λ r. ⌜ r ≡ allApart sessions ⌝ }
+{
+    let mut i: usize = 0;
+    while i < 16 {
+        let se = sessions[i];
+        if !apart_from(se, sessions, i + 1) {
+            return false;
+        }
+        i += 1;
+    }
+    true
+}

@@ -1,0 +1,2 @@
+-- The computation of the example.
+pub mod Witness

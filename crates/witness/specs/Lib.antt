@@ -1,0 +1,2 @@
+-- A bench that is not vacuous. Below: promises, bench.
+pub mod Witness

@@ -1,0 +1,72 @@
+-- The promises are not empty: the entries lead from nothing to a sound bench with a ready, a finished and a faulted session, and each of them
+-- takes a turn; and refusals 1, 6 and 11 to 17 are each given to somebody. So no runner that refuses everything, and no loader that takes
+-- everything, meets the contracts.
+-- Proved as `witness` in proofs/Witness, by computing. Below: bench's entries.
+use mathlib.Core.Path.{_≡_}
+use mathlib.Core.List.{List, [], _∷_, _++_}
+use Prim.Native.Nat.{ℕ, zero, suc}
+use lib.ListN.{replicate, take, drop}
+use Rattle.machine.specs.declared.Kind.the-variants.{Ready, Finished, Faulted}
+use Rattle.sound.specs.Bench.{World, worldOf, sessionAt, wordsOf}
+use Rattle.sound.specs.Sound.{Sound}
+use Rattle.bench.specs.declared.Answer.{Answer}
+use Rattle.bench.specs.declared.Answer.the-variants.{Done, Refused}
+use Rattle.bench.specs.Answer.{Result}
+use Rattle.bench.specs.Entries.{newOf, loadOf, openOf, turnOf, closeOf}
+
+-- the document's small segment but for its last two bytes: SLDC 5 and SLDC 7, or others
+unfoldable pub segment : ℕ → ℕ → List ℕ
+segment x y =
+    0x0B ∷ 0 ∷ 0 ∷ 0 ∷ 0x50 ∷ 0x4F ∷ 0x4E ∷ 0x44 ∷ 0x20 ∷ 0x20 ∷ 0x20 ∷ 0x20 ∷ 1 ∷ 0 ∷ 0 ∷ 0
+    ∷ 2 ∷ 0 ∷ 0 ∷ 0 ∷ 0 ∷ 0 ∷ 1 ∷ 0 ∷ 0x0E ∷ 0 ∷ 0x1E ∷ 0 ∷ 0 ∷ 0 ∷ x ∷ y ∷ []
+
+-- the small segment, then one that returns at once (RPU 0)
+unfoldable pub store : List ℕ
+store = segment 5 7 ++ segment 150 0
+
+-- a new bench of 56 words, 4 of them shared; both segments loaded
+unfoldable pub loaded : World
+loaded = loadOf store 1 32 32 (loadOf store 0 0 32 (worldOf (newOf 56 4 .bench) (replicate 56 0)) .world) .world
+
+-- three sessions of 16 words: 0 and 2 on the small segment, 1 on the other
+unfoldable pub opened : World
+opened = openOf store 0 16 (openOf store 1 16 (openOf store 0 16 loaded .world) .world) .world
+
+-- session 1 has finished, session 2 has faulted
+unfoldable pub ran : World
+ran = turnOf store 2 9 (turnOf store 1 1 opened .world) .world
+
+-- so many openings of 16 words, one after another, on a new bench of 300 words
+unfoldable pub openings : ℕ → World → World
+openings zero w = w
+openings (suc k) w = openings k (openOf store 0 16 w .world)
+
+unfoldable pub full : World
+full = openings 16 (loadOf store 0 0 32 (worldOf (newOf 300 4 .bench) (replicate 300 0)) .world)
+
+pub record Witness : Type 0 where
+  pub sound : Sound store ran
+  -- a session of every kind
+  pub ready : sessionAt ran 0 .cpu .kind ≡ Ready
+  pub finished : sessionAt ran 1 .cpu .kind ≡ Finished
+  pub faulted : sessionAt ran 2 .cpu .kind ≡ Faulted 1 32
+  -- and an accepted turn of each
+  pub turn-ready : turnOf store 0 2 ran .answer ≡ Done 2
+  pub turn-finished : turnOf store 1 9 ran .answer ≡ Done 0
+  pub turn-faulted : turnOf store 2 9 ran .answer ≡ Done 0
+  -- the small run: "a turn of 9 returns 3"; word 15 is 5, word 14 is 7
+  pub small-run : turnOf store 2 9 opened .answer ≡ Done 3
+  pub small-words : drop 14 (wordsOf ran (sessionAt ran 2)) ≡ 7 ∷ 5 ∷ []
+  -- refusals
+  pub no-bench : newOf 56 57 .answer ≡ Refused 17 0
+  pub not-sound : turnOf [] 0 1 ran .answer ≡ Refused 11 0
+  pub no-session : turnOf store 4000000000 1 ran .answer ≡ Refused 12 0
+  pub too-many : turnOf store 0 65536 ran .answer ≡ Refused 16 0
+  pub odd-start : loadOf store 2 1 32 ran .answer ≡ Refused 17 0
+  pub half-segment : loadOf store 2 0 16 ran .answer ≡ Refused 1 0
+  pub bad-entry : loadOf (store ++ (take 24 (segment 5 7) ++ (0 ∷ drop 25 (segment 5 7)))) 2 64 32 ran .answer ≡ Refused 6 1
+  pub too-short : openOf store 0 15 ran .answer ≡ Refused 13 0
+  pub no-record : openOf store 0 16 full .answer ≡ Refused 14 0
+  pub no-gap : openOf store 0 16 ran .answer ≡ Refused 15 0
+  -- and a closed session's words can be given again
+  pub again : openOf store 0 16 (closeOf store 1 ran .world) .answer ≡ Done 1
