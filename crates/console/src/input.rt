@@ -1,0 +1,181 @@
+// Where commands come from: the program's arguments, or the lines of standard input until it ends.
+// Above it: the program. Below it: words and the commands.
+use crate::commands;
+use crate::errors;
+use crate::files;
+use crate::say;
+use libc::STDIN_FILENO;
+use text::front;
+use text::word;
+
+// The program's arguments are one command. An argument is one word, whatever bytes it holds.
+pub fn arguments() {
+    let mut room = io::buffer();
+    let n = os::arg(1, &mut room);
+    if os::errno() == libc::ENAMETOOLONG {
+        too_long(1);
+        return;
+    }
+    first_argument(front(&room, n));
+}
+
+fn first_argument(verb: &[u8]) {
+    let mut room = io::buffer();
+    let n = os::arg(2, &mut room);
+    if os::errno() == libc::ENAMETOOLONG {
+        too_long(2);
+        return;
+    }
+    second_argument(verb, front(&room, n));
+}
+
+fn second_argument(verb: &[u8], first: &[u8]) {
+    let mut room = io::buffer();
+    let n = os::arg(3, &mut room);
+    if os::errno() == libc::ENAMETOOLONG {
+        too_long(3);
+        return;
+    }
+    let second = front(&room, n);
+    if os::arg_count() > 4 {
+        commands::follow(verb, first, second, b"more");
+    } else {
+        commands::follow(verb, first, second, b"");
+    }
+}
+
+fn too_long(k: u64) {
+    say::text(b"cannot follow that: word ");
+    say::number(k);
+    say::text(b" is longer than 4096 bytes\n");
+}
+
+// A line of standard input: how many of its bytes were kept, whether it had more, and whether
+// another line may follow.
+struct Line {
+    count: usize,
+    over: bool,
+    more: bool,
+}
+
+// A proved loop has to end, and nothing says that the input does. So the loop counts its turns
+// down, from a number that no run uses up.
+pub fn script() {
+    let typed = libc::isatty(STDIN_FILENO) == 1;
+    let mut turns = u64::MAX;
+    while turns > 0 && one_line(typed) {
+        turns -= 1;
+    }
+    if typed {
+        say::end();
+    }
+}
+
+// Reads a line, follows it, and answers whether another may come.
+fn one_line(typed: bool) -> bool {
+    if typed {
+        say::text(b"> ");
+    }
+    let mut room = io::buffer();
+    let line = read_line(STDIN_FILENO, &mut room);
+    heard(front(&room, line.count), typed, line.over, line.more)
+}
+
+// A line that does not fit is not followed at all: a command that is cut short is another command.
+fn heard(kept: &[u8], typed: bool, over: bool, more: bool) -> bool {
+    if over {
+        say::text(
+            b"cannot follow that: the line has more than 4096 bytes, and all of it is skipped\n",
+        );
+        return more;
+    }
+    if !typed {
+        echo(kept, more);
+    }
+    obey(kept);
+    more
+}
+
+// What was read and not typed is shown before its answer, as a terminal would show it. The input's
+// end is no line.
+fn echo(kept: &[u8], more: bool) {
+    if is_command(kept) {
+        say::text(b"> ");
+    } else if kept.len() == 0 {
+        if !more {
+            return;
+        }
+    }
+    say::path(kept);
+    say::end();
+}
+
+// A line without words, or one that begins with #, is no command.
+fn is_command(kept: &[u8]) -> bool {
+    let verb = word(kept, 0);
+    if verb.len() == 0 {
+        return false;
+    }
+    verb[0] != b'#'
+}
+
+fn obey(kept: &[u8]) {
+    if is_command(kept) {
+        commands::follow(word(kept, 0), word(kept, 1), word(kept, 2), word(kept, 3));
+    }
+}
+
+// A byte of the input. Where none is there, the byte is a line's end if the input has ended, and 0
+// if it cannot be read.
+struct Taken {
+    there: bool,
+    byte: u8,
+}
+
+fn next(fd: i32) -> Taken {
+    let mut one = [b'\n'; 1];
+    let got = files::read_some(fd, &mut one);
+    let there = got.count == 1;
+    let error = got.error;
+    if error != 0 {
+        errors::cannot(b"cannot read ", b"standard input", error);
+        return Taken { there, byte: 0 };
+    }
+    let byte = one[0];
+    Taken { there, byte }
+}
+
+// Reads to the end of the line, and keeps as much as room holds, or nothing of a line that cannot be
+// read to its end. It reads byte by byte, so that nothing after the line is taken.
+fn read_line(fd: i32, room: &mut [u8]) -> Line {
+    let mut n = 0;
+    let mut over = false;
+    let mut turns = u64::MAX;
+    while turns > 0 {
+        turns -= 1;
+        let got = next(fd);
+        let byte = got.byte;
+        let there = got.there;
+        if byte == b'\n' {
+            return Line {
+                count: n,
+                over,
+                more: there,
+            };
+        }
+        if !there {
+            break;
+        }
+        if n < room.len() {
+            room[n] = byte;
+            n += 1;
+        } else {
+            over = true;
+        }
+    }
+    Line {
+        count: 0,
+        over: false,
+        more: false,
+    }
+}

@@ -1,0 +1,11 @@
+-- `words::rest` has the words after the first. Assumes nothing.
+use borrow.Author.Needs.{needs}
+use Rattle.text.proofs.Runs.{rest-holds}
+use Rattle.text.proofs.words.rest.Statement.{statement}
+use Rattle.text.proofs.words.rest.Tie as tie
+
+returns : tie.Need-returns
+returns c = rest-holds _ _ _ (c .before .before .begun .ensures) (c .before .ink .ensures .0)
+
+pub rest-spec : {M : Type 1} → statement M
+rest-spec = tie.close (tie.spec (λ c κs. search needs) (λ c κs. search needs) (λ c. search needs) (λ c. search needs) (λ c. search needs) returns)

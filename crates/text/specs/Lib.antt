@@ -1,0 +1,3 @@
+pub mod Words
+pub mod Seen
+pub mod Joins
