@@ -1,12 +1,8 @@
--- The marked cases of specs/Cases hold: each side computes to the same word.
+-- The cases of specs/Cases hold: each side computes to the same word.
 -- specs/Integer stands below. Assumes nothing.
 use mathlib.Core.Path.{refl}
-use Rattle.basis.specs.Integer.{modulo, integerOf, wordOf, unary, binary, truth, ordered, flipped, addOf, subOf, mulOf, quotOf, remOf, negOf, magOf, incOf, decOf, eqOf, neOf, leqOf, geqOf, leuOf, geuOf, andOf, orOf, notOf}
-use Rattle.basis.specs.Cases.{minus, Marked, Others}
-
-pub marked : Marked
-unfolding minus modulo integerOf wordOf binary addOf mulOf quotOf remOf
-marked = record { g = refl; h = refl; i = refl; i-remainder = refl; j = refl; j-remainder = refl }
+use Rattle.basis.specs.Integer.{modulo, integerOf, wordOf, unary, binary, truth, ordered, flipped, subOf, mulOf, quotOf, remOf, negOf, magOf, incOf, decOf, eqOf, neOf, leqOf, geqOf, leuOf, geuOf, andOf, orOf, notOf}
+use Rattle.basis.specs.Cases.{minus, Others}
 
 pub others : Others
 unfolding minus modulo integerOf wordOf unary binary truth ordered flipped subOf mulOf quotOf remOf negOf magOf incOf decOf eqOf neOf leqOf geqOf leuOf geuOf andOf orOf notOf

@@ -1,21 +1,13 @@
--- Document 01's marked cases of 16-bit integers, (g) to (j), as one statement; and the same of the operations that it marks no case for.
+-- Cases of 16-bit integers beside those in the table of marked cases: each operation once or more.
 -- specs/Integer stands below; the proof, by computing, is in proofs/Cases.
 use mathlib.Core.Path.{_≡_}
 use Prim.Native.Nat.{ℕ}
 use lib.IntN.{negℤ, pos}
-use Rattle.basis.specs.Integer.{wordOf, addOf, subOf, mulOf, quotOf, remOf, negOf, magOf, incOf, decOf, eqOf, neOf, leqOf, geqOf, leuOf, geuOf, andOf, orOf, notOf}
+use Rattle.basis.specs.Integer.{wordOf, subOf, mulOf, quotOf, remOf, negOf, magOf, incOf, decOf, eqOf, neOf, leqOf, geqOf, leuOf, geuOf, andOf, orOf, notOf}
 
 -- the word of -k
 unfoldable pub minus : ℕ → ℕ
 minus k = wordOf 16 (negℤ (pos k))
-
-pub record Marked : Type 0 where
-  pub g : addOf 32767 1 ≡ minus 32768
-  pub h : mulOf 300 300 ≡ 24464
-  pub i : quotOf (minus 7) 2 ≡ minus 3
-  pub i-remainder : remOf (minus 7) 2 ≡ minus 1
-  pub j : quotOf (minus 32768) (minus 1) ≡ minus 32768
-  pub j-remainder : remOf (minus 32768) (minus 1) ≡ 0
 
 pub record Others : Type 0 where
   pub subtract : subOf 3 5 ≡ minus 2

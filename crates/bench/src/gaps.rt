@@ -7,8 +7,8 @@ ghost use Rattle.sound.specs.Sound.{all, placed};
 ghost use Rattle.bench.specs.Entries.{unused, first, clearOf, hits, gapOf};
 use super::Gap;
 use sound::Session;
-use word::either;
-use word::ends_by;
+use tests::either;
+use tests::ends_by;
 
 // The lowest record that is not used, or 16.
 pub fn first_unused(sessions: [Session; 16]) -> usize

@@ -13,9 +13,9 @@ use segment::Verdict;
 use sound::Bench;
 use sound::Slot;
 use sound::sound;
-use word::both;
-use word::code_of;
-use word::ends_by;
+use tests::both;
+use tests::code_of;
+use tests::ends_by;
 
 fn range_ok(store: &[u8], start: usize, len: usize) -> bool
     ensures { λ r. ⌜ r ≡ rangeOk (now (store .entry)) start len ⌝ }
@@ -53,7 +53,7 @@ pub fn load(b: Bench, memory: &[u16], store: &[u8], slot: usize, start: usize, l
     if !range_ok(store, start, len) {
         return refuse(b, 17, 0);
     }
-    let v = segment::judge(code_of(store, start, len));
+    let v = checks::judge(code_of(store, start, len));
     if let Verdict::Refused { number, place } = v {
         return refuse(b, number, place);
     }

@@ -19,9 +19,9 @@ use session::start_cpu;
 use sound::Bench;
 use sound::Session;
 use sound::sound;
-use word::at_most;
-use word::both;
-use word::code_of;
+use tests::at_most;
+use tests::both;
+use tests::code_of;
 
 // L in 16..32,768, and at least 6+G.
 fn len_ok(code: &[u8], len: usize) -> bool

@@ -15,7 +15,7 @@ use session::run;
 use sound::Bench;
 use sound::Session;
 use sound::sound;
-use word::code_of;
+use tests::code_of;
 
 // The steps that a turn did, of the 65,535 that it can be asked for.
 fn steps_done(n: usize) -> Answer

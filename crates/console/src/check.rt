@@ -25,7 +25,7 @@ pub fn check(file: &[u8]) {
 
 fn report(file: &[u8], seg: &[u8]) {
     size(file, seg.len());
-    let v = segment::judge(seg);
+    let v = checks::judge(seg);
     match v {
         Verdict::Accepted => {
             passed(seg);

@@ -3,7 +3,6 @@
 use Prim.Native.Nat.{ℕ, _+_, _<_}
 use mathlib.Core.Path.{_≡_, refl, sym, _∙_, ap, subst}
 use mathlib.Core.List.{List, [], _∷_}
-use mathlib.Core.Bool.{Bool, true}
 use lib.Dec.{leb, ltb}
 use lib.ListN.{length}
 use borrow.Author.Tests.{ltb-true}
@@ -13,7 +12,7 @@ use Rattle.basis.specs.Bools.{inside}
 use Rattle.basis.proofs.Bools.{cond-holds, and-snd}
 use Rattle.operand.specs.Bytes.{byteAt}
 use Rattle.pmachine.specs.Opcode.{Row, carried, uncarried, opcode}
-use Rattle.pmachine.specs.Decoding.{Decoded as Decoding, faulty, rowDecoded}
+use Rattle.pmachine.specs.Decoding.{faulty, rowDecoded}
 use Rattle.pmachine.specs.Step.{Outcome, fault, judgedBy, judge}
 use Rattle.code.specs.declared.Decode.{Decode}
 use Rattle.code.specs.declared.Decode.the-variants.{Decoded, Outside, Uncarried}

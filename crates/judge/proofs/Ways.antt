@@ -13,10 +13,10 @@ use Rattle.operand.specs.declared.Operand.{Operand}
 use Rattle.operand.specs.declared.Operand.the-variants.{Got, Out}
 use Rattle.operand.specs.Operand.{Form, UB, DB, fetched, fetchedOf}
 use Rattle.pmachine.specs.Meaning.{Meaning}
-use Rattle.pmachine.specs.Opcode.{Row, carried, uncarried, opcode}
+use Rattle.pmachine.specs.Opcode.{carried, uncarried, opcode}
 use Rattle.pmachine.specs.Decoding.{lawful, rowDecoded}
 use Rattle.pmachine.specs.State.{Registers}
-use Rattle.pmachine.specs.Step.{Outcome, fault, follow, outcome, judgedBy}
+use Rattle.pmachine.specs.Step.{Outcome, follow, outcome, judgedBy}
 use Rattle.pmachine.specs.Sound.{Loaded, Ranged}
 use Rattle.plan.specs.declared.Regs.{Regs}
 use Rattle.plan.specs.declared.Planned.the-variants.{Bad}
@@ -27,7 +27,7 @@ use Rattle.plan.proofs.Meanings.{instr}
 use Rattle.plan.proofs.Decodes.{none, cut1, got1, cut2, deep2, got2, came, ran-out, came-high, fetched-DB, no-row, walked-high}
 use Rattle.plan.proofs.Arms.{row, bad, enough}
 
--- of a byte b, whose row is that of k
+-- of a byte b, whose operands stand at `at`
 module _ (s shared w : List ℕ) (q : Regs) (at b : ℕ) where
   abbrev pub Says : Outcome → Type 0
   Says P = P ≡ judgedBy s shared w (regsOf q) (rowDecoded (opcode b) s at)

@@ -40,6 +40,9 @@ ghost use Rattle.plan.specs.Answer.{regsOf, outcomeOf};
 ghost use Rattle.plan.specs.Told.{Told};
 ghost use Rattle.judge.specs.Fault.{numberOf};
 
+// The greatest number of links that a DB tells; one above it faults with 2.
+const DEEPEST: u16 = 127;
+
 // What the instruction of a first byte does, whose operands stand at `at`. One flat match, one arm a byte or a short range: a match in a
 // match would be a second jump at every step, and a function for each part of it would pass its answer through memory.
 fn act(
@@ -130,7 +133,7 @@ fn act(
             let Operand::Got { value: a, next } = operand::big(seg, mid) else {
                 return Planned::Bad(1);
             };
-            if 127 < d {
+            if DEEPEST < d {
                 return Planned::Bad(2);
             }
             let Link::Record(rec) = walk(region, r.m, d) else {
@@ -149,7 +152,7 @@ fn act(
             let Operand::Got { value: a, next } = operand::big(seg, mid) else {
                 return Planned::Bad(1);
             };
-            if 127 < d {
+            if DEEPEST < d {
                 return Planned::Bad(2);
             }
             let Link::Record(rec) = walk(region, r.m, d) else {
@@ -210,7 +213,7 @@ fn act(
             let Operand::Got { value: a, next } = operand::unsigned(seg, mid) else {
                 return Planned::Bad(1);
             };
-            if 127 < d {
+            if DEEPEST < d {
                 return Planned::Bad(2);
             }
             let Link::Record(rec) = walk(region, r.m, d) else {
@@ -230,13 +233,13 @@ fn act(
             if few(region, r.sp, 2) {
                 return Planned::Bad(3);
             }
-            give_two(r, at, word::bit_or(nos(region, r), tos(region, r)))
+            give_two(r, at, compare::bit_or(nos(region, r), tos(region, r)))
         }
         161 => {
             if few(region, r.sp, 2) {
                 return Planned::Bad(3);
             }
-            give_two(r, at, word::bit_and(nos(region, r), tos(region, r)))
+            give_two(r, at, compare::bit_and(nos(region, r), tos(region, r)))
         }
         162 => {
             if few(region, r.sp, 2) {
@@ -279,7 +282,7 @@ fn act(
             let Operand::Got { value: a, next } = operand::big(seg, mid) else {
                 return Planned::Bad(1);
             };
-            if 127 < d {
+            if DEEPEST < d {
                 return Planned::Bad(2);
             }
             if few(region, r.sp, 1) {
@@ -312,37 +315,37 @@ fn act(
             if few(region, r.sp, 2) {
                 return Planned::Bad(3);
             }
-            give_two(r, at, word::equal(nos(region, r), tos(region, r)))
+            give_two(r, at, compare::equal(nos(region, r), tos(region, r)))
         }
         177 => {
             if few(region, r.sp, 2) {
                 return Planned::Bad(3);
             }
-            give_two(r, at, word::differ(nos(region, r), tos(region, r)))
+            give_two(r, at, compare::differ(nos(region, r), tos(region, r)))
         }
         178 => {
             if few(region, r.sp, 2) {
                 return Planned::Bad(3);
             }
-            give_two(r, at, word::leq(nos(region, r), tos(region, r)))
+            give_two(r, at, compare::leq(nos(region, r), tos(region, r)))
         }
         179 => {
             if few(region, r.sp, 2) {
                 return Planned::Bad(3);
             }
-            give_two(r, at, word::geq(nos(region, r), tos(region, r)))
+            give_two(r, at, compare::geq(nos(region, r), tos(region, r)))
         }
         180 => {
             if few(region, r.sp, 2) {
                 return Planned::Bad(3);
             }
-            give_two(r, at, word::leu(nos(region, r), tos(region, r)))
+            give_two(r, at, compare::leu(nos(region, r), tos(region, r)))
         }
         181 => {
             if few(region, r.sp, 2) {
                 return Planned::Bad(3);
             }
-            give_two(r, at, word::geu(nos(region, r), tos(region, r)))
+            give_two(r, at, compare::geu(nos(region, r), tos(region, r)))
         }
         189 => {
             if few(region, r.sp, 2) {
@@ -402,7 +405,7 @@ fn act(
             if few(region, r.sp, 1) {
                 return Planned::Bad(3);
             }
-            give_one(r, at, word::bit_not(tos(region, r)))
+            give_one(r, at, compare::bit_not(tos(region, r)))
         }
         230 => {
             let Operand::Got { value: a, next } = operand::big(seg, at) else {

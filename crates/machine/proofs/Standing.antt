@@ -8,7 +8,7 @@ use lib.ListN.{length, take}
 use Rattle.basis.specs.Part.{part, splice}
 use Rattle.basis.proofs.Part.{length-part, splice-same}
 use Rattle.pmachine.specs.State.{Registers}
-use Rattle.pmachine.specs.Step.{Outcome, fault, finish, goes, judge}
+use Rattle.pmachine.specs.Step.{Outcome, goes, judge}
 use Rattle.pmachine.specs.Run.{written, settled}
 use Rattle.pmachine.specs.Sound.{Loaded, Ranged}
 use Rattle.pmachine.proofs.Judged.{Goes, judge-goes}

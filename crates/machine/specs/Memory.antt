@@ -3,7 +3,7 @@
 use mathlib.Core.Path.{_≡_}
 use mathlib.Core.List.{List}
 use Prim.Native.Nat.{ℕ, _-_, _≤_}
-use lib.ListN.{length, take}
+use lib.ListN.{take}
 use Rattle.basis.specs.Part.{part, splice}
 use Rattle.pmachine.specs.State.{Registers, Kind as Kinds, ready, finished, faulted, State}
 use Rattle.pmachine.specs.Step.{Outcome}

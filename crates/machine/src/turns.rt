@@ -21,12 +21,14 @@ ghost use Rattle.machine.specs.Memory.{kindOf, Placed, RanTo};
 pub fn facts_of(seg: &[u8]) -> Facts
     ensures { λ f. ⌜ Told (now (seg .entry)) f ⌝ }
 {
+    let head = segment::head(seg);
+    let first = segment::routine_of(seg, 1);
     Facts {
-        sex: sex_number(segment::is_least(seg)),
-        dict: segment::dict_of(seg) as usize,
-        count: segment::count_of(seg) as usize,
-        pool: segment::pool_of(seg) as usize,
-        floor: 6 + segment::datasize_of(seg, 1) as usize,
+        sex: sex_number(head.least),
+        dict: head.dict as usize,
+        count: head.count as usize,
+        pool: head.pool as usize,
+        floor: 6 + first.datasize as usize,
     }
 }
 

@@ -8,8 +8,6 @@ use lib.Dec.{ltb, eqb}
 use Rattle.operand.specs.Bytes.{byteAt, join}
 use Rattle.operand.specs.declared.Operand.{Operand}
 use Rattle.operand.specs.declared.Operand.the-variants.{Got, Out}
-use Rattle.operand.specs.declared.Form.{Form as Formed}
-use Rattle.operand.specs.declared.Form.the-variants.{Ub, Sb, Db, Big, Wide}
 
 pub data Form : Type 0 where
   UB : Form
@@ -50,14 +48,6 @@ fetched W s at = given s at (given s (at + 1) (got (join (byteAt s at) (byteAt s
 abbrev pub fetchedOf : Operand → Fetched
 fetchedOf (Got value next) = got value next
 fetchedOf (Out place) = out place
-
--- the form that the code names
-abbrev pub formOf : Formed → Form
-formOf Ub = UB
-formOf Sb = SB
-formOf Db = DB
-formOf Big = B
-formOf Wide = W
 
 -- the form of a number, as the opcode table packs it: 0 to 4 for UB, SB, DB, B and W
 unfoldable pub formAt : ℕ → Form

@@ -1,11 +1,10 @@
 // The operands of instructions, at a byte offset. They are never swapped: W is least byte first in a segment of either sex.
 // Below: bytes and pairs. Above: the reader, and the machine's step, which calls one of the four small functions an operand.
-use crate::Form;
 use crate::Operand;
 use crate::parts::pair;
 ghost use mathlib.Core.Path.{_≡_};
 ghost use Prim.Native.Nat.{_-_};
-ghost use Rattle.operand.specs.Operand.{UB, SB, B, W, fetched, fetchedOf, formOf, formAt};
+ghost use Rattle.operand.specs.Operand.{UB, SB, B, W, fetched, fetchedOf};
 
 // UB and DB.
 pub fn unsigned(seg: &[u8], at: usize) -> Operand
@@ -88,43 +87,4 @@ pub fn wide(seg: &[u8], at: usize) -> Operand
         return Operand::Out { place: at + 1 };
     }
     Operand::Out { place: at }
-}
-
-// An operand of any form.
-pub fn fetch(form: Form, seg: &[u8], at: usize) -> Operand
-    ensures { λ r. ⌜ fetchedOf r ≡ fetched (formOf form) (now (seg .entry)) at ⌝ }
-{
-    match form {
-        Form::Ub => unsigned(seg, at),
-        Form::Sb => signed(seg, at),
-        Form::Db => unsigned(seg, at),
-        Form::Big => big(seg, at),
-        Form::Wide => wide(seg, at),
-    }
-}
-
-// The form with a number, as the opcode table packs it.
-pub fn form_of(code: u8) -> Form
-    ensures { λ r. ⌜ formOf r ≡ formAt code ⌝ }
-{
-    if code == 0 {
-        return Form::Ub;
-    }
-    if code == 1 {
-        return Form::Sb;
-    }
-    if code == 2 {
-        return Form::Db;
-    }
-    if code == 3 {
-        return Form::Big;
-    }
-    Form::Wide
-}
-
-// An operand of the form with the number code.
-pub fn fetch_coded(seg: &[u8], at: usize, code: u8) -> Operand
-    ensures { λ r. ⌜ fetchedOf r ≡ fetched (formAt code) (now (seg .entry)) at ⌝ }
-{
-    fetch(form_of(code), seg, at)
 }

@@ -1,17 +1,13 @@
 // Bytes, words of either byte sex, and the operands of instructions: what a segment's bytes say at a byte offset.
-// Below stands nothing but small tests; above stand the segment's header and verdict, the reader, and the machine's step.
+// Below stands nothing; above stand the segment's header and verdict, the reader, and the machine's step.
 mod fetches;
 mod parts;
 
 pub use fetches::big;
-pub use fetches::fetch;
-pub use fetches::fetch_coded;
-pub use fetches::form_of;
 pub use fetches::signed;
 pub use fetches::unsigned;
 pub use fetches::wide;
 pub use parts::byte_at;
-pub use parts::pair;
 pub use parts::word_at;
 pub use parts::word_in;
 
@@ -19,13 +15,4 @@ pub use parts::word_in;
 pub enum Operand {
     Got { value: u16, next: usize },
     Out { place: usize },
-}
-
-// The operand forms UB, SB, DB, B and W.
-pub enum Form {
-    Ub,
-    Sb,
-    Db,
-    Big,
-    Wide,
 }

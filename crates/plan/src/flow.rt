@@ -47,9 +47,10 @@ pub fn jump(len: usize, r: Regs, sp: usize, next: usize, a: u16) -> Planned
 {
     let t = landing(len, next, a);
     if t == 0 {
-        return Planned::Bad(7);
+        Planned::Bad(7)
+    } else {
+        Planned::Move(sp, t)
     }
-    Planned::Move(sp, t)
 }
 
 // A conditional jump looks at bit 0 only.
@@ -59,9 +60,10 @@ pub fn branch(region: &[u16], len: usize, r: Regs, want: u16, next: usize, a: u1
     ensures { λ p. ⌜ outcomeOf r p ≡ branched (now (region .entry)) len (regsOf r) want next a ⌝ }
 {
     if word_of(region, r.sp) % 2 == want {
-        return jump(len, r, r.sp + 1, next, a);
+        jump(len, r, r.sp + 1, next, a)
+    } else {
+        Planned::Move(r.sp + 1, next)
     }
-    Planned::Move(r.sp + 1, next)
 }
 
 // The record that d static links lead to: one link, and then d - 1 more.
@@ -167,12 +169,14 @@ pub fn give_back(len: usize, facts: Facts, region: &[u16], r: Regs, a: u16) -> P
     ensures { λ p. ⌜ outcomeOf r p ≡ returned len (facts .count) (facts .floor) (now (region .entry)) (regsOf r) a ⌝ }
 {
     if r.m == 1 {
-        return Planned::Finish;
+        Planned::Finish
+    } else {
+        let sp = r.m + 5 + a as usize;
+        let mark = mark_at(region, r.m);
+        if in_order(len, region.len(), facts, mark, sp) {
+            Planned::Back(sp, mark[1] as usize, mark[2] as usize, mark[4] as usize)
+        } else {
+            Planned::Bad(9)
+        }
     }
-    let sp = r.m + 5 + a as usize;
-    let mark = mark_at(region, r.m);
-    if in_order(len, region.len(), facts, mark, sp) {
-        return Planned::Back(sp, mark[1] as usize, mark[2] as usize, mark[4] as usize);
-    }
-    Planned::Bad(9)
 }

@@ -17,9 +17,10 @@ pub fn load(region: &[u16], floor: usize, r: Regs, rec: usize, a: u16, next: usi
 {
     let at = rec + 4 + a as usize;
     if region.len() <= at {
-        return Planned::Bad(6);
+        Planned::Bad(6)
+    } else {
+        push(floor, r, next, word_of(region, at))
     }
-    push(floor, r, next, word_of(region, at))
 }
 
 pub fn address(region: &[u16], floor: usize, r: Regs, rec: usize, a: u16, next: usize) -> Planned
@@ -28,9 +29,10 @@ pub fn address(region: &[u16], floor: usize, r: Regs, rec: usize, a: u16, next: 
 {
     let at = rec + 4 + a as usize;
     if region.len() <= at {
-        return Planned::Bad(6);
+        Planned::Bad(6)
+    } else {
+        push(floor, r, next, at as u16)
     }
-    push(floor, r, next, at as u16)
 }
 
 pub fn store(region: &[u16], r: Regs, rec: usize, a: u16, next: usize) -> Planned
@@ -39,9 +41,10 @@ pub fn store(region: &[u16], r: Regs, rec: usize, a: u16, next: usize) -> Planne
 {
     let at = rec + 4 + a as usize;
     if region.len() <= at {
-        return Planned::Bad(6);
+        Planned::Bad(6)
+    } else {
+        Planned::Put(r.sp + 1, next, at, word_of(region, r.sp))
     }
-    Planned::Put(r.sp + 1, next, at, word_of(region, r.sp))
 }
 
 // The word i words on from the address base.
@@ -72,12 +75,14 @@ pub fn store_at(region: &[u16], r: Regs, next: usize) -> Planned
 {
     let at = word_of(region, r.sp + 1) as usize;
     if at < 1 {
-        return Planned::Bad(6);
+        Planned::Bad(6)
+    } else {
+        if region.len() <= at {
+            Planned::Bad(6)
+        } else {
+            Planned::Put(r.sp + 2, next, at, word_of(region, r.sp))
+        }
     }
-    if region.len() <= at {
-        return Planned::Bad(6);
-    }
-    Planned::Put(r.sp + 2, next, at, word_of(region, r.sp))
 }
 
 // The word offset a of the constant pool, as a word number of the segment.
@@ -86,11 +91,13 @@ pub fn pool_offset(words: usize, pool: usize, floor: usize, r: Regs, next: usize
     ensures { λ p. ⌜ outcomeOf r p ≡ pooled words pool floor (regsOf r) next a ⌝ }
 {
     if pool == 0 {
-        return Planned::Bad(6);
+        Planned::Bad(6)
+    } else {
+        let at = pool + a as usize;
+        if words <= at {
+            Planned::Bad(6)
+        } else {
+            push(floor, r, next, at as u16)
+        }
     }
-    let at = pool + a as usize;
-    if words <= at {
-        return Planned::Bad(6);
-    }
-    push(floor, r, next, at as u16)
 }

@@ -47,9 +47,10 @@ pub fn push(floor: usize, r: Regs, next: usize, v: u16) -> Planned
 {
     let sp = r.sp - 1;
     if sp < floor {
-        return Planned::Bad(4);
+        Planned::Bad(4)
+    } else {
+        Planned::Put(sp, next, sp, v)
     }
-    Planned::Put(sp, next, sp, v)
 }
 
 // A word in the place of the top one.
@@ -82,9 +83,10 @@ pub fn quotient(r: Regs, next: usize, x: u16, y: u16) -> Planned
     ensures { λ p. ⌜ outcomeOf r p ≡ divided quotOf (regsOf r) next x y ⌝ }
 {
     if y == 0 {
-        return Planned::Bad(5);
+        Planned::Bad(5)
+    } else {
+        give_two(r, next, word::quot(x, y))
     }
-    give_two(r, next, word::quot(x, y))
 }
 
 pub fn remainder(r: Regs, next: usize, x: u16, y: u16) -> Planned
@@ -92,9 +94,10 @@ pub fn remainder(r: Regs, next: usize, x: u16, y: u16) -> Planned
     ensures { λ p. ⌜ outcomeOf r p ≡ divided remOf (regsOf r) next x y ⌝ }
 {
     if y == 0 {
-        return Planned::Bad(5);
+        Planned::Bad(5)
+    } else {
+        give_two(r, next, word::rem(x, y))
     }
-    give_two(r, next, word::rem(x, y))
 }
 
 // TOS-1 <= TOS-2 <= TOS, leaving TOS-2.
@@ -103,11 +106,13 @@ pub fn check_range(region: &[u16], r: Regs, next: usize) -> Planned
     ensures { λ p. ⌜ outcomeOf r p ≡ checked (now (region .entry)) (regsOf r) next ⌝ }
 {
     let v = word_of(region, r.sp + 2);
-    if word::leq(word_of(region, r.sp + 1), v) == 1 {
-        if word::leq(v, word_of(region, r.sp)) == 1 {
-            return Planned::Move(r.sp + 2, next);
+    if compare::leq(word_of(region, r.sp + 1), v) == 1 {
+        if compare::leq(v, word_of(region, r.sp)) == 1 {
+            Planned::Move(r.sp + 2, next)
+        } else {
+            Planned::Bad(10)
         }
-        return Planned::Bad(10);
+    } else {
+        Planned::Bad(10)
     }
-    Planned::Bad(10)
 }

@@ -1,24 +1,10 @@
-// Code segments: the numbers of the header and of the routines, and the verdict of checks 1 to 8.
-// Below: bytes, words and operands. Above: turning a segment's byte sex, the machine and the bench.
+// Code segments: the numbers of the header and of the routines, and what an answer to a segment is. All is total, for any bytes.
+// Below: bytes and words. Above: the verdict of checks 1 to 8, turning a segment's byte sex, the machine and the bench.
+use operand::byte_at;
+use operand::word_at;
 ghost use mathlib.Core.Path.{_≡_};
-ghost use Rattle.segment.specs.Head.{freshOf};
-
-mod checks;
-mod header;
-
-pub use checks::accepts;
-pub use checks::judge;
-pub use header::count_of;
-pub use header::datasize_of;
-pub use header::dict_of;
-pub use header::entry_of;
-pub use header::exitic_of;
-pub use header::head;
-pub use header::is_least;
-pub use header::pool_of;
-pub use header::routine_of;
-pub use header::start_of;
-pub use header::words_of;
+ghost use Prim.Native.Nat.{_-_};
+ghost use Rattle.segment.specs.Head.{least, headOf, routineOf, freshOf};
 
 // The numbers of a segment's header: how many words, whether words are least byte first, the
 // dictionary, relocation and pool pointers, the real size, and how many routines.
@@ -82,4 +68,52 @@ pub struct Routine {
 pub enum Verdict {
     Accepted,
     Refused { number: u8, place: u16 },
+}
+
+fn is_least(seg: &[u8]) -> bool
+    ensures { λ r. ⌜ r ≡ least (now (seg .entry)) ⌝ }
+{
+    byte_at(seg, Segment::SEX_BYTE) == Segment::ONE
+}
+
+// The header's numbers.
+pub fn head(seg: &[u8]) -> Segment
+    ensures { λ r. ⌜ r ≡ headOf (now (seg .entry)) ⌝ }
+{
+    let least = is_least(seg);
+    let dict = word_at(seg, least, Segment::DICT);
+    Segment {
+        words: seg.len() / 2,
+        least,
+        dict,
+        reloc: word_at(seg, least, Segment::RELOC),
+        pool: word_at(seg, least, Segment::POOL),
+        real: word_at(seg, least, Segment::REAL),
+        count: word_at(seg, least, dict as u32),
+    }
+}
+
+// One less, and 0 of 0.
+fn less_one(n: u16) -> u16
+    ensures { λ r. ⌜ r ≡ n - 1 ⌝ }
+{
+    if n == 0 {
+        return 0;
+    }
+    n - 1
+}
+
+// The numbers of routine k. Its entry is the word number of its DATASIZE.
+pub fn routine_of(seg: &[u8], k: u16) -> Routine
+    ensures { λ r. ⌜ r ≡ routineOf (now (seg .entry)) k ⌝ }
+{
+    let least = is_least(seg);
+    let dict = word_at(seg, least, Segment::DICT);
+    let entry = word_at(seg, least, (dict as u32) + (k as u32));
+    Routine {
+        entry,
+        datasize: word_at(seg, least, entry as u32),
+        exitic: word_at(seg, least, less_one(entry) as u32),
+        start: 2 * (entry as u32 + 1),
+    }
 }

@@ -5,8 +5,8 @@ ghost use Rattle.sound.specs.Bench.{noSlot, noSession};
 ghost use Rattle.sound.specs.Sound.{limitsOk, soundB};
 use machine::Cpu;
 use session::no_cpu;
-use word::at_most;
-use word::both;
+use tests::at_most;
+use tests::both;
 
 mod regions;
 mod sessions;

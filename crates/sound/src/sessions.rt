@@ -5,9 +5,9 @@ ghost use Rattle.sound.specs.Sound.{all, sessionOk};
 use super::Session;
 use super::Slot;
 use session::cpu_ok;
-use word::at_most;
-use word::both;
-use word::code_of;
+use tests::at_most;
+use tests::both;
+use tests::code_of;
 
 fn session_ok(store: &[u8], slots: [Slot; 16], se: Session) -> bool
     ensures { λ r. ⌜ r ≡ sessionOk (now (store .entry)) slots se ⌝ }

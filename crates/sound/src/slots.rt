@@ -3,9 +3,9 @@
 ghost use mathlib.Core.Path.{_≡_};
 ghost use Rattle.sound.specs.Sound.{all, slotOk};
 use super::Slot;
-use word::both;
-use word::code_of;
-use word::ends_by;
+use tests::both;
+use tests::code_of;
+use tests::ends_by;
 
 fn slot_ok(store: &[u8], sl: Slot) -> bool
     ensures { λ r. ⌜ r ≡ slotOk (now (store .entry)) sl ⌝ }
@@ -16,7 +16,7 @@ fn slot_ok(store: &[u8], sl: Slot) -> bool
     let start = sl.start;
     let len = sl.len;
     let inside = ends_by(start, len, store.len());
-    both(inside, segment::accepts(code_of(store, start, len)))
+    both(inside, checks::accepts(code_of(store, start, len)))
 }
 
 pub fn all_ok(store: &[u8], slots: [Slot; 16]) -> bool

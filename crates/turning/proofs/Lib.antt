@@ -2,4 +2,3 @@ pub mod Swaps
 pub mod Positions
 pub mod Twice
 pub mod Outputs
-pub mod Cases

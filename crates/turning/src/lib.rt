@@ -1,5 +1,5 @@
 // Turning a segment to the other byte sex: its bytes copied, then the two bytes at each word position written swapped.
-// Above: the bench and the comparing of segments. Below: the header, the routines and the checks of `segment`.
+// Above: the bench and the comparing of segments. Below: the numbers of a segment, and the verdict of checks 1 to 8.
 use segment::Segment;
 use segment::Verdict;
 ghost use mathlib.Core.Path.{_≡_};
@@ -10,46 +10,7 @@ ghost use lib.ListN.{length, drop};
 ghost use Rattle.basis.specs.Bools.{inside};
 ghost use Rattle.segment.specs.Head.{count};
 ghost use Rattle.segment.specs.Judge.{judged};
-ghost use Rattle.turning.specs.Turn.{frame, framed, position, swapAt, turned, turnVerdict, turnedInto};
-
-// Word w is EXITIC or DATASIZE of the entry e.
-fn at_frame(e: u16, w: u32) -> bool
-    ensures { λ r. ⌜ r ≡ frame e w ⌝ }
-{
-    let at = w as u64;
-    word::either(at + 1 == (e as u64), at == (e as u64))
-}
-
-// Word w is EXITIC or DATASIZE of some routine.
-fn at_frames(seg: &[u8], w: u32) -> bool
-    ensures { λ r. ⌜ r ≡ framed (now (seg .entry)) (count (now (seg .entry))) w ⌝ }
-{
-    let mut k = segment::count_of(seg);
-    while 0 < k {
-        if at_frame(segment::entry_of(seg, k), w) {
-            return true;
-        }
-        k -= 1;
-    }
-    false
-}
-
-// Whether word w is a word position.
-pub fn is_position(seg: &[u8], w: u32) -> bool
-    ensures { λ r. ⌜ r ≡ position (now (seg .entry)) w ⌝ }
-{
-    let at = w as usize;
-    let d = segment::dict_of(seg) as usize;
-    let n = segment::count_of(seg) as usize;
-    let fixed = word::either(
-        word::within(Segment::DICT as usize, Segment::NAME as usize, at),
-        word::within(Segment::SEX as usize, Segment::BODY, at),
-    );
-    word::either(
-        word::either(fixed, word::within(d, d + n + 1, at)),
-        at_frames(seg, w),
-    )
-}
+ghost use Rattle.turning.specs.Turn.{framed, swapAt, turned, turnVerdict, turnedInto};
 
 // Copies the segment to the first bytes of the output.
 fn copy(seg: &[u8], out: &mut [u8])
@@ -87,15 +48,15 @@ fn swap_words(seg: &[u8], out: &mut [u8], first: u32, end: u32)
 }
 
 // EXITIC and DATASIZE of every routine.
-fn swap_frames(seg: &[u8], out: &mut [u8])
-    requires { ⌜ (judged (now seg) ≡ Verdict.Accepted) × (length (now seg) ≤ length (now out)) ⌝ }
+fn swap_frames(seg: &[u8], out: &mut [u8], n: u16)
+    requires { ⌜ (judged (now seg) ≡ Verdict.Accepted) × (length (now seg) ≤ length (now out)) × (n ≡ count (now seg)) ⌝ }
     ensures { λ _. ⌜ now (out .exit) ≡ swapAt (framed (now (seg .entry)) (count (now (seg .entry)))) (now (seg .entry)) (now (out .entry)) ⌝ }
 {
-    let n = segment::count_of(seg);
     let mut k: u16 = 0;
     while k < n {
         k += 1;
-        let e = segment::entry_of(seg, k) as u32;
+        let r = segment::routine_of(seg, k);
+        let e = r.entry as u32;
         swap_words(seg, out, e - 1, e + 1);
     }
 }
@@ -105,13 +66,14 @@ fn turn_words(seg: &[u8], out: &mut [u8])
     requires { ⌜ (judged (now seg) ≡ Verdict.Accepted) × (length (now seg) ≤ length (now out)) ⌝ }
     ensures { λ _. ⌜ now (out .exit) ≡ turned (now (seg .entry)) ++ drop (length (now (seg .entry))) (now (out .entry)) ⌝ }
 {
-    let d = segment::dict_of(seg) as u32;
-    let n = segment::count_of(seg) as u32;
+    let h = segment::head(seg);
+    let d = h.dict as u32;
+    let n = h.count as u32;
     copy(seg, out);
     swap_words(seg, out, Segment::DICT, Segment::NAME);
     swap_words(seg, out, Segment::SEX, Segment::BODY as u32);
     swap_words(seg, out, d, d + n + 1);
-    swap_frames(seg, out);
+    swap_frames(seg, out, h.count);
 }
 
 // A refusal with place 0.
@@ -125,14 +87,15 @@ fn refused(number: u8) -> Verdict
 fn judge_turn(seg: &[u8], room: usize) -> Verdict
     ensures { λ r. ⌜ r ≡ turnVerdict (now (seg .entry)) room ⌝ }
 {
-    let v = segment::judge(seg);
+    let v = checks::judge(seg);
     if let Verdict::Refused {
         number: _,
         place: _,
     } = v {
         return v;
     }
-    if segment::pool_of(seg) != 0 {
+    let h = segment::head(seg);
+    if h.pool != 0 {
         return refused(9);
     }
     if room < seg.len() {

@@ -1,4 +1,5 @@
--- Each byte of the flat match does what its row says. The ways through an arm are of Ways, its meaning's outcome of Arms.
+-- `judge::act` meets its contract: each byte of the flat match does what its row says.
+-- Above: `judge`; below: Ways, the ways through an arm, and Arms of `plan`, its outcome. Assumes nothing.
 use mathlib.Core.Path.{ap, refl, sym, _∙_}
 use native.Mathlib.Omega.{arith}
 use borrow.Author.Needs.{needs}

@@ -5,6 +5,7 @@ use borrow.Author.Needs.{needs}
 use native.Mathlib.Omega.{arith}
 use lib.ListN.{length}
 use denote.Ref.{now}
+use Rattle.segment.specs.declared.Routine.{Routine}
 use Rattle.turning.specs.Turn.{framed, swapAt}
 use Rattle.turning.proofs.Positions.{entry-fits, frames-start, frames-more}
 use Rattle.turning.proofs.swap_frames.Statement.{statement}
@@ -17,29 +18,29 @@ abbrev μ-loop : tie.MeasureT-loop
 μ-loop seg out₀ n k₀ out k = n - k
 
 loop-holds : tie.Need-loop-holds Inv-loop μ-loop
-loop-holds c = (omega arith, refl, frames-start (now (c .before .before .before .args .seg)) (now (c .before .before .before .args .out)))
+loop-holds c = (omega arith, refl, frames-start (now (c .before .before .args .seg)) (now (c .before .before .args .out)))
 
 sub-swap-words : tie.Need-sub-swap-words Inv-loop μ-loop
-sub-swap-words c = entry-fits (now (c .before .before .before .before .before .before .before .args .seg)) (c .before .before .before .before .before .before .before .pre .0) (c .before .before .before .before .count-of .result) (c .before .before .before .loop .k) (c .before .entry-of .result) (c .before .before .before .before .count-of .ensures) (c .before .before .loop-test .taken) (c .before .entry-of .ensures) .0
+sub-swap-words c = entry-fits (now (c .before .before .before .before .before .before .before .args .seg)) (c .before .before .before .before .before .before .before .pre .0) (c .before .before .before .before .before .before .before .args .n) (c .before .before .before .before .loop .k) (c .before .before .routine-of .result .entry) (c .before .before .before .before .before .before .before .pre .2) (c .before .before .before .loop-test .taken) (ap (λ (r : Routine). r .entry) (c .before .before .routine-of .ensures)) .0
 
 swap-words-requires : tie.Need-swap-words-requires Inv-loop μ-loop
 swap-words-requires c κs =
-    let f = entry-fits (now (c .before .before .before .before .before .before .before .args .seg)) (c .before .before .before .before .before .before .before .pre .0) (c .before .before .before .before .count-of .result) (c .before .before .before .loop .k) (c .before .entry-of .result) (c .before .before .before .before .count-of .ensures) (c .before .before .loop-test .taken) (c .before .entry-of .ensures) in
+    let f = entry-fits (now (c .before .before .before .before .before .before .before .args .seg)) (c .before .before .before .before .before .before .before .pre .0) (c .before .before .before .before .before .before .before .args .n) (c .before .before .before .before .loop .k) (c .before .before .routine-of .result .entry) (c .before .before .before .before .before .before .before .pre .2) (c .before .before .before .loop-test .taken) (ap (λ (r : Routine). r .entry) (c .before .before .routine-of .ensures)) in
     (omega arith, omega (arith, f .1), omega arith)
 
 loop-again : tie.Need-loop-again Inv-loop μ-loop
 loop-again c =
-    let f = entry-fits (now (c .before .before .before .before .before .before .before .before .before .before .args .seg)) (c .before .before .before .before .before .before .before .before .before .before .pre .0) (c .before .before .before .before .before .before .before .count-of .result) (c .before .before .before .before .before .before .loop .k) (c .before .before .before .before .entry-of .result) (c .before .before .before .before .before .before .before .count-of .ensures) (c .before .before .before .before .before .loop-test .taken) (c .before .before .before .before .entry-of .ensures) in
+    let f = entry-fits (now (c .before .before .before .before .before .before .before .before .before .before .args .seg)) (c .before .before .before .before .before .before .before .before .before .before .pre .0) (c .before .before .before .before .before .before .before .before .before .before .args .n) (c .before .before .before .before .before .before .before .loop .k) (c .before .before .before .before .before .routine-of .result .entry) (c .before .before .before .before .before .before .before .before .before .before .pre .2) (c .before .before .before .before .before .before .loop-test .taken) (ap (λ (r : Routine). r .entry) (c .before .before .before .before .before .routine-of .ensures)) in
     let t = c .before .before .swap-words in
-    (omega arith, t .kept .1 .0 ∙ c .before .before .before .before .before .before .loop .inv .1, t .ensures ∙ frames-more (now (c .before .before .before .before .before .before .before .before .before .before .args .seg)) (now (c .before .before .before .before .before .before .before .before .before .before .args .out)) (c .before .before .before .before .before .before .loop .out) (c .before .before .before .before .before .before .loop .k) (c .before .before .before .before .entry-of .result) (c .before .before .before .before .before .before .loop .inv .2) (c .before .before .before .before .entry-of .ensures) (f .0))
+    (omega arith, t .kept .1 .0 ∙ c .before .before .before .before .before .before .before .loop .inv .1, t .ensures ∙ frames-more (now (c .before .before .before .before .before .before .before .before .before .before .args .seg)) (now (c .before .before .before .before .before .before .before .before .before .before .args .out)) (c .before .before .before .before .before .before .before .loop .out) (c .before .before .before .before .before .before .before .loop .k) (c .before .before .before .before .before .routine-of .result .entry) (c .before .before .before .before .before .before .before .loop .inv .2) (ap (λ (r : Routine). r .entry) (c .before .before .before .before .before .routine-of .ensures)) (f .0))
 
 same-length : tie.Need-same-length Inv-loop μ-loop
 same-length c = c .before .loop .inv .1
 
 returns : tie.Need-returns Inv-loop μ-loop
 returns c =
-    let e : c .before .loop .k ≡ c .before .before .count-of .result = omega arith in
-    c .before .loop .inv .2 ∙ ap (λ (n : ℕ). swapAt (framed (now (c .before .before .before .before .before .args .seg)) n) (now (c .before .before .before .before .before .args .seg)) (now (c .before .before .before .before .before .args .out))) (e ∙ c .before .before .count-of .ensures)
+    let e : c .before .loop .k ≡ c .before .before .before .before .args .n = omega arith in
+    c .before .loop .inv .2 ∙ ap (λ (n : ℕ). swapAt (framed (now (c .before .before .before .before .args .seg)) n) (now (c .before .before .before .before .args .seg)) (now (c .before .before .before .before .args .out))) (e ∙ c .before .before .before .before .pre .2)
 
 pub swap-frames-spec : {M : Type 1} → statement M
 swap-frames-spec =
@@ -47,7 +48,6 @@ swap-frames-spec =
     (tie.spec
     Inv-loop
     μ-loop
-    (λ c κs. search needs)
     loop-holds
     (λ c. search needs)
     (λ c κs. search needs)

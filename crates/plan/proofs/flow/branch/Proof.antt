@@ -14,17 +14,16 @@ add-jump c = search needs
 jump-requires : tie.Need-jump-requires
 jump-requires c κs = search needs
 
+add-t12 : tie.Need-add-t12
+add-t12 c = search needs
+
 returns : tie.Need-returns
 unfolding outcomeOf branched
 returns c = simp (← c .jump .ensures, eq-eqb _ _ (c .before .before .if1 .taken), ← c .before .before .before .word-of .ensures)
-
-add-t11 : tie.Need-add-t11
-add-t11 c = search needs
 
 returns-2 : tie.Need-returns-2
 unfolding outcomeOf branched
 returns-2 c = simp (ne-eqb _ _ (c .before .if1 .left), ← c .before .before .word-of .ensures)
 
 pub branch-spec : {M : Type 1} → statement M
-branch-spec =
-    tie.close (tie.spec word-of-requires add-jump jump-requires returns add-t11 returns-2)
+branch-spec = tie.close (tie.spec word-of-requires add-jump jump-requires add-t12 returns returns-2)

@@ -5,10 +5,6 @@ use borrow.Author.Needs.{needs}
 use Rattle.plan.proofs.flow.give_back.Statement.{statement}
 use Rattle.plan.proofs.flow.give_back.Tie as tie
 
-returns : tie.Need-returns
-unfolding outcomeOf returned
-returns c = simp (eq-eqb _ _ (c .if1 .taken))
-
 add-sp : tie.Need-add-sp
 add-sp c = search needs
 
@@ -21,23 +17,27 @@ mark-at-requires c κs = search needs
 in-order-requires : tie.Need-in-order-requires
 in-order-requires c κs = search needs
 
-array-read-t15 : tie.Need-array-read-t15
-array-read-t15 c = search needs
+array-read-t17 : tie.Need-array-read-t17
+array-read-t17 c = search needs
 
-cast-t16 : tie.Need-cast-t16
-cast-t16 c = search needs
+cast-t18 : tie.Need-cast-t18
+cast-t18 c = search needs
 
-array-read-t19 : tie.Need-array-read-t19
-array-read-t19 c = search needs
+array-read-t21 : tie.Need-array-read-t21
+array-read-t21 c = search needs
 
-cast-t20 : tie.Need-cast-t20
-cast-t20 c = search needs
+cast-t22 : tie.Need-cast-t22
+cast-t22 c = search needs
 
-array-read-t23 : tie.Need-array-read-t23
-array-read-t23 c = search needs
+array-read-t25 : tie.Need-array-read-t25
+array-read-t25 c = search needs
 
-cast-t24 : tie.Need-cast-t24
-cast-t24 c = search needs
+cast-t26 : tie.Need-cast-t26
+cast-t26 c = search needs
+
+returns : tie.Need-returns
+unfolding outcomeOf returned
+returns c = simp (eq-eqb _ _ (c .if1 .taken))
 
 returns-2 : tie.Need-returns-2
 unfolding outcomeOf returned
@@ -51,16 +51,16 @@ pub give-back-spec : {M : Type 1} → statement M
 give-back-spec =
     tie.close
     (tie.spec
-    returns
     add-sp
     add-sp-2
     mark-at-requires
     in-order-requires
-    array-read-t15
-    cast-t16
-    array-read-t19
-    cast-t20
-    array-read-t23
-    cast-t24
+    array-read-t17
+    cast-t18
+    array-read-t21
+    cast-t22
+    array-read-t25
+    cast-t26
+    returns
     returns-2
     returns-3)

@@ -5,16 +5,8 @@ use borrow.Author.Needs.{needs}
 use Rattle.plan.proofs.places.pool_offset.Statement.{statement}
 use Rattle.plan.proofs.places.pool_offset.Tie as tie
 
-returns : tie.Need-returns
-unfolding outcomeOf pooled
-returns c = simp (eq-eqb _ _ (c .if1 .taken))
-
 add-at : tie.Need-add-at
 add-at c = search needs
-
-returns-2 : tie.Need-returns-2
-unfolding outcomeOf pooled
-returns-2 c = simp (le-leb _ _ (c .if2 .taken), ne-eqb _ _ (c .before .if1 .left))
 
 cast-push : tie.Need-cast-push
 cast-push c = search needs
@@ -22,9 +14,17 @@ cast-push c = search needs
 push-requires : tie.Need-push-requires
 push-requires c κs = search needs
 
+returns : tie.Need-returns
+unfolding outcomeOf pooled
+returns c = simp (eq-eqb _ _ (c .if1 .taken))
+
+returns-2 : tie.Need-returns-2
+unfolding outcomeOf pooled
+returns-2 c = simp (le-leb _ _ (c .if2 .taken), ne-eqb _ _ (c .before .if1 .left))
+
 returns-3 : tie.Need-returns-3
 unfolding outcomeOf pooled
 returns-3 c = simp (← c .push .ensures, lt-leb _ _ (c .before .if2 .left), ne-eqb _ _ (c .before .before .if1 .left))
 
 pub pool-offset-spec : {M : Type 1} → statement M
-pool-offset-spec = tie.close (tie.spec returns add-at returns-2 cast-push push-requires returns-3)
+pool-offset-spec = tie.close (tie.spec add-at cast-push push-requires returns returns-2 returns-3)

@@ -11,19 +11,19 @@ add-at c = search needs
 add-at-2 : tie.Need-add-at-2
 add-at-2 c = search needs
 
-returns : tie.Need-returns
-unfolding outcomeOf stored
-returns c = simp (le-leb _ _ (c .if1 .taken))
-
-add-t8 : tie.Need-add-t8
-add-t8 c = search needs
+add-t11 : tie.Need-add-t11
+add-t11 c = search needs
 
 word-of-requires : tie.Need-word-of-requires
 word-of-requires c κs = search needs
+
+returns : tie.Need-returns
+unfolding outcomeOf stored
+returns c = simp (le-leb _ _ (c .if1 .taken))
 
 returns-2 : tie.Need-returns-2
 unfolding outcomeOf stored
 returns-2 c = simp (← c .word-of .ensures, lt-leb _ _ (c .before .before .if1 .left))
 
 pub store-spec : {M : Type 1} → statement M
-store-spec = tie.close (tie.spec add-at add-at-2 returns add-t8 word-of-requires returns-2)
+store-spec = tie.close (tie.spec add-at add-at-2 add-t11 word-of-requires returns returns-2)

@@ -14,6 +14,12 @@ word-of-requires c κs = search needs
 cast-at : tie.Need-cast-at
 cast-at c = search needs
 
+add-t12 : tie.Need-add-t12
+add-t12 c = search needs
+
+word-of-requires-2 : tie.Need-word-of-requires-2
+word-of-requires-2 c κs = search needs
+
 returns : tie.Need-returns
 unfolding outcomeOf storedAt
 returns c = simp (lt-ltb _ _ (c .if1 .taken), ← c .before .word-of .ensures)
@@ -21,12 +27,6 @@ returns c = simp (lt-ltb _ _ (c .if1 .taken), ← c .before .word-of .ensures)
 returns-2 : tie.Need-returns-2
 unfolding outcomeOf storedAt
 returns-2 c = simp (le-leb _ _ (c .if2 .taken), le-ltb _ _ (c .before .if1 .left), ← c .before .before .word-of .ensures)
-
-add-t6 : tie.Need-add-t6
-add-t6 c = search needs
-
-word-of-requires-2 : tie.Need-word-of-requires-2
-word-of-requires-2 c κs = search needs
 
 returns-3 : tie.Need-returns-3
 unfolding outcomeOf storedAt
@@ -39,8 +39,8 @@ store-at-spec =
     add-word-of
     word-of-requires
     cast-at
+    add-t12
+    word-of-requires-2
     returns
     returns-2
-    add-t6
-    word-of-requires-2
     returns-3)

@@ -26,8 +26,8 @@ word-of-requires-3 c κs = search needs
 leq-requires-2 : tie.Need-leq-requires-2
 leq-requires-2 c κs = search needs
 
-add-t12 : tie.Need-add-t12
-add-t12 c = search needs
+add-t14 : tie.Need-add-t14
+add-t14 c = search needs
 
 returns : tie.Need-returns
 unfolding outcomeOf checked
@@ -52,7 +52,7 @@ check-range-spec =
     leq-requires
     word-of-requires-3
     leq-requires-2
-    add-t12
+    add-t14
     returns
     returns-2
     returns-3)

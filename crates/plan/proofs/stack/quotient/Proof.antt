@@ -5,19 +5,19 @@ use borrow.Author.Needs.{needs}
 use Rattle.plan.proofs.stack.quotient.Statement.{statement}
 use Rattle.plan.proofs.stack.quotient.Tie as tie
 
-returns : tie.Need-returns
-unfolding outcomeOf divided
-returns c = simp (eq-eqb _ _ (c .if1 .taken))
-
 quot-requires : tie.Need-quot-requires
 quot-requires c κs = search needs
 
 give-two-requires : tie.Need-give-two-requires
 give-two-requires c κs = search needs
 
+returns : tie.Need-returns
+unfolding outcomeOf divided
+returns c = simp (eq-eqb _ _ (c .if1 .taken))
+
 returns-2 : tie.Need-returns-2
 unfolding outcomeOf divided
 returns-2 c = simp (← c .give-two .ensures, ← c .before .quot .ensures, ne-eqb _ _ (c .before .before .if1 .left))
 
 pub quotient-spec : {M : Type 1} → statement M
-quotient-spec = tie.close (tie.spec returns quot-requires give-two-requires returns-2)
+quotient-spec = tie.close (tie.spec quot-requires give-two-requires returns returns-2)

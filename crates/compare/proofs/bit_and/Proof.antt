@@ -1,0 +1,12 @@
+-- `compare::bit_and` meets its contract. Assumes nothing.
+use mathlib.Core.Path.{refl}
+use Rattle.basis.specs.Integer.{andOf}
+use Rattle.compare.proofs.bit_and.Statement.{statement}
+use Rattle.compare.proofs.bit_and.Tie as tie
+
+returns : tie.Need-returns
+unfolding andOf
+returns c = refl
+
+pub bit-and-spec : {M : Type 1} → statement M
+bit-and-spec = tie.close (tie.spec returns)
