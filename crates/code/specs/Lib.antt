@@ -1,2 +1,3 @@
+-- What a reader of this crate must believe: its definitions and statements, a module each.
 pub mod Packed
 pub mod First

@@ -1,3 +1,4 @@
+-- `commit::put_five` meets its contract. Five words from a place upward are `written` of the mark.
 use Prim.Native.Nat.{_+_}
 use mathlib.Core.Path.{_≡_}
 use native.Mathlib.Omega.{arith}
@@ -5,71 +6,52 @@ use Rattle.pmachine.specs.Run.{written}
 use borrow.Author.Needs.{needs}
 use Rattle.commit.proofs.put_five.Statement.{statement}
 use Rattle.commit.proofs.put_five.Tie as tie
-use Rattle.commit.proofs.put_five.Reads as reads
-use Rattle.commit.proofs.put_five.Lts as lts
-use Rattle.commit.proofs.put.Reads as put-reads
 
--- src/lib.rt:30:20
 array-read-put : tie.Need-array-read-put
 array-read-put c = search needs
 
--- src/lib.rt:30:5
 put-requires : tie.Need-put-requires
 put-requires c κs = search needs
 
--- src/lib.rt:31:17
 add-put : tie.Need-add-put
 add-put c = search needs
 
--- src/lib.rt:31:24
 array-read-put-2 : tie.Need-array-read-put-2
 array-read-put-2 c = search needs
 
--- src/lib.rt:31:5
 put-requires-2 : tie.Need-put-requires-2
 put-requires-2 c κs = search needs
 
--- src/lib.rt:32:17
 add-put-2 : tie.Need-add-put-2
 add-put-2 c = search needs
 
--- src/lib.rt:32:24
 array-read-put-3 : tie.Need-array-read-put-3
 array-read-put-3 c = search needs
 
--- src/lib.rt:32:5
 put-requires-3 : tie.Need-put-requires-3
 put-requires-3 c κs = search needs
 
--- src/lib.rt:33:17
 add-put-3 : tie.Need-add-put-3
 add-put-3 c = search needs
 
--- src/lib.rt:33:24
 array-read-put-4 : tie.Need-array-read-put-4
 array-read-put-4 c = search needs
 
--- src/lib.rt:33:5
 put-requires-4 : tie.Need-put-requires-4
 put-requires-4 c κs = search needs
 
--- src/lib.rt:34:17
 add-put-4 : tie.Need-add-put-4
 add-put-4 c = search needs
 
--- src/lib.rt:34:24
 array-read-put-5 : tie.Need-array-read-put-5
 array-read-put-5 c = search needs
 
--- src/lib.rt:34:5
 put-requires-5 : tie.Need-put-requires-5
 put-requires-5 c κs = search needs
 
--- src/lib.rt:26:1
 same-length : tie.Need-same-length
 same-length c = search needs
 
--- src/lib.rt:26:1
 returns : tie.Need-returns
 unfolding written
 returns c =
