@@ -1,9 +1,5 @@
 // `check FILE`: the header numbers and routines of a segment, or why it is refused.
 // Above it: the commands. Below it: `segment`, which judges, and how the console speaks.
-use crate::errors;
-use crate::files;
-use crate::refusals;
-use crate::say;
 use segment::Segment;
 use segment::Verdict;
 use text::front;
@@ -17,7 +13,7 @@ pub fn check(file: &[u8]) {
     let n = got.count;
     let error = got.error;
     if error != 0 {
-        errors::cannot(b"cannot read ", file, error);
+        files::cannot(b"cannot read ", file, error);
         return;
     }
     report(file, front(&room, n));
@@ -31,7 +27,7 @@ fn report(file: &[u8], seg: &[u8]) {
             passed(seg);
         }
         Verdict::Refused { number, place } => {
-            refusals::refused(number, place);
+            rules::refused(number, place);
         }
     }
 }

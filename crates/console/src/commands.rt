@@ -1,7 +1,6 @@
 // The commands by name, and how many words each takes.
 // Above it: what is typed, a line or the program's arguments. Below it: a module for each command.
 use crate::check;
-use crate::say;
 use crate::turn;
 use text::same;
 

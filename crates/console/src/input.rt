@@ -1,9 +1,6 @@
 // Where commands come from: the program's arguments, or the lines of standard input until it ends.
 // Above it: the program. Below it: words and the commands.
 use crate::commands;
-use crate::errors;
-use crate::files;
-use crate::say;
 use libc::STDIN_FILENO;
 use text::front;
 use text::word;
@@ -138,7 +135,7 @@ fn next(fd: i32) -> Taken {
     let there = got.count == 1;
     let error = got.error;
     if error != 0 {
-        errors::cannot(b"cannot read ", b"standard input", error);
+        files::cannot(b"cannot read ", b"standard input", error);
         return Taken { there, byte: 0 };
     }
     let byte = one[0];

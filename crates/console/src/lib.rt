@@ -5,11 +5,7 @@
 // followed, as where a file cannot be read, with `cannot`; no other line begins so.
 mod check;
 mod commands;
-mod errors;
-mod files;
 mod input;
-mod refusals;
-mod say;
 mod turn;
 
 pub use input::arguments;

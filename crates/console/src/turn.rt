@@ -1,10 +1,6 @@
 // `turn FILE OUT`: a segment with the other byte sex.
 // Above it: the commands. Below it: `turning`, which turns or refuses, and how the console speaks.
 use crate::check;
-use crate::errors;
-use crate::files;
-use crate::refusals;
-use crate::say;
 use segment::Verdict;
 use text::front;
 
@@ -14,7 +10,7 @@ pub fn turn(file: &[u8], out: &[u8]) {
     let n = got.count;
     let error = got.error;
     if error != 0 {
-        errors::cannot(b"cannot read ", file, error);
+        files::cannot(b"cannot read ", file, error);
         return;
     }
     turned(file, front(&room, n), out);
@@ -29,7 +25,7 @@ fn turned(file: &[u8], seg: &[u8], out: &[u8]) {
         }
         Verdict::Refused { number, place } => {
             check::size(file, seg.len());
-            refusals::refused(number, place);
+            rules::refused(number, place);
         }
     }
 }
@@ -37,7 +33,7 @@ fn turned(file: &[u8], seg: &[u8], out: &[u8]) {
 fn written(seg: &[u8], out: &[u8]) {
     let error = files::write(out, seg);
     if error != 0 {
-        errors::cannot(b"cannot write ", out, error);
+        files::cannot(b"cannot write ", out, error);
         return;
     }
     let h = segment::head(seg);

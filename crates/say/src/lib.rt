@@ -42,12 +42,35 @@ fn shown(bytes: &[u8], top: u8) {
     text(front(&room, n));
 }
 
+// A word as a number in two's complement.
+pub fn signed(w: u16) {
+    if w < 32768 {
+        number(w as u64);
+    } else {
+        text(b"-");
+        number(65536 - w as u64);
+    }
+}
+
+// Text at the left end of a column of at most 20 characters; it is wider where the text is.
+pub fn column(bytes: &[u8], width: usize) {
+    text(bytes);
+    if bytes.len() < width {
+        blanks(width - bytes.len());
+    }
+}
+
+// At most 20 blanks.
+pub fn blanks(n: usize) {
+    text(front(b"                    ", n));
+}
+
 // A number at the right end of a column of at most 20 characters; it is wider where its digits are.
 pub fn padded(n: u64, width: usize) {
     let mut digits = [0u8; 20];
     let k = io::decimal(n, &mut digits);
     if k < width {
-        text(front(b"                    ", width - k));
+        blanks(width - k);
     }
     text(&digits[..k]);
 }

@@ -1,7 +1,11 @@
 // Whole files: one read into a buffer, and one written by a temporary name beside it, so that a failure leaves no half file.
-// Above it: the commands on files. Below it: `os`, `io` and `libc`.
+// Above it: the commands on files. Below it: `os`, `io` and `libc`; `errors` says why one failed.
 ghost use Prim.Native.Nat.{_+_, _≤_};
 ghost use lib.ListN.{length};
+
+mod errors;
+
+pub use errors::cannot;
 
 // How many bytes were read, and the error's number, or 0 where there was none.
 pub struct Got {

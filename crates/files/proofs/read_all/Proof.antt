@@ -1,10 +1,10 @@
--- `files::read_all` is safe and ends: each turn but the last fills more of the buffer. Assumes nothing.
+-- `read_all` is safe and ends: each turn but the last fills more of the buffer. Assumes nothing.
 use Prim.Native.Nat.{_-_, _≤_}
 use mathlib.Core.Path.{_≡_}
 use borrow.Author.Needs.{needs}
 use lib.ListN.{length}
-use Rattle.console.proofs.files.read_all.Statement.{statement}
-use Rattle.console.proofs.files.read_all.Tie as tie
+use Rattle.files.proofs.read_all.Statement.{statement}
+use Rattle.files.proofs.read_all.Tie as tie
 
 abbrev Inv-loop : tie.InvT-loop
 Inv-loop fd room₀ at₀ room at = (at ≤ length room₀) × (length room ≡ length room₀)

@@ -10,8 +10,8 @@ use lib.Signed.{ltZ, nonNeg}
 use mir.Syntax.{w32, w64}
 use mir.Val.{Fits, SFits}
 use mir.Facts.{toZ-ofZ}
-use Rattle.console.proofs.errors.other.Statement.{statement}
-use Rattle.console.proofs.errors.other.Tie as tie
+use Rattle.files.proofs.errors.other.Statement.{statement}
+use Rattle.files.proofs.errors.other.Tie as tie
 
 above : (z : ℤ) → SFits w32 z → ltZ (pos 0) z ≡ true → T (nonNeg z) × Fits w64 (natAbs z)
 above (pos n) f h = (tt, record { fits = omega (arith, f .sfits) })

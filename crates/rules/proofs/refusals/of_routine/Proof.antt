@@ -1,7 +1,7 @@
 -- `refusals::of_routine` is its test. Assumes nothing.
 use borrow.Author.Tests.{lt-leb, le-leb}
-use Rattle.console.proofs.refusals.of_routine.Statement.{statement}
-use Rattle.console.proofs.refusals.of_routine.Tie as tie
+use Rattle.rules.proofs.refusals.of_routine.Statement.{statement}
+use Rattle.rules.proofs.refusals.of_routine.Tie as tie
 
 returns : tie.Need-returns
 returns c = simp (lt-leb _ _ (c .if1 .taken))

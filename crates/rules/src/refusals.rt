@@ -3,7 +3,6 @@
 ghost use mathlib.Core.Path.{_≡_};
 ghost use mathlib.Core.Bool.{Bool, _&&_};
 ghost use lib.Dec.{leb};
-use crate::say;
 
 // The last line of a command that was refused: `refused N at P: rule`.
 pub fn refused(number: u8, place: u16) {

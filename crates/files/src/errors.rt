@@ -1,6 +1,5 @@
 // Why a file could not be read or written, in a plain sentence for each error's number.
 // Above it: the commands on files. Below it: how the console speaks.
-use crate::say;
 
 // The last line of a command that failed on a file, as `cannot read NAME: why`.
 pub fn cannot(what: &[u8], path: &[u8], error: i32) {
