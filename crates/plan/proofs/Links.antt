@@ -1,9 +1,9 @@
--- A walk of no link and of at least one, as the code counts; and where a routine is entered, as the code reads it.
--- Above: the proofs of walk, enter and in_order; below: Step of `pmachine`, and what Facts tell.
-use mathlib.Core.Path.{_≡_, refl, ap, _∙_}
+-- A mark in order, and where a routine is entered, as the code reads them.
+-- Above: the proofs of enter and in_order; below: Step of `pmachine`, and what Facts tell.
+use mathlib.Core.Path.{_≡_, ap, _∙_}
 use mathlib.Core.List.{List}
 use mathlib.Core.Bool.{Bool, true, false, cond}
-use Prim.Native.Nat.{ℕ, zero, suc, _+_, _-_, _*_, _≤_}
+use Prim.Native.Nat.{ℕ, suc, _+_, _-_, _*_, _≤_}
 use native.Mathlib.Omega.{arith}
 use borrow.Author.Tests.{le-leb, eq-eqb, ne-eqb}
 use lib.Dec.{ltb, leb, eqb}
@@ -12,24 +12,11 @@ use Rattle.basis.specs.Bools.{inside}
 use Rattle.basis.proofs.Bools.{leb-iff}
 use Rattle.operand.specs.Bytes.{wordBy}
 use Rattle.segment.specs.Head.{least, word, dict, count, entry, datasize, start}
-use Rattle.pmachine.specs.Step.{reaches, broken, pointer, follow, floor}
+use Rattle.pmachine.specs.Step.{floor}
 use Rattle.plan.specs.declared.Facts.{Facts}
 use Rattle.plan.specs.declared.Entry.the-variants.{To, Not}
 use Rattle.plan.specs.Answer.{entered, inOrder}
 use Rattle.plan.specs.Told.{sexOf, Told}
-
-pub walk-none : (w : List ℕ) (m d : ℕ) → d ≡ 0 → follow w m d ≡ reaches m
-unfolding follow
-walk-none w m zero e = refl
-walk-none w m (suc d) e = absurd (omega arith)
-
-pub walk-more : (w : List ℕ) (m d : ℕ) → (d ≡ 0 → ⊥)
-    → follow w m d ≡ cond (pointer w (getD w m 0)) (follow w (getD w m 0) (d - 1)) broken
-unfolding follow
-walk-more w m zero h = absurd (h refl)
-walk-more w m (suc d) h =
-    let e : d ≡ suc d - 1 = omega arith in
-    ap (λ (k : ℕ). cond (pointer w (getD w m 0)) (follow w (getD w m 0) k) broken) e
 
 -- below n + 1 is n at most
 pub below-suc : (p n : ℕ) → ltb p (n + 1) ≡ leb p n

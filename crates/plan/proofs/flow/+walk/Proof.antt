@@ -1,7 +1,7 @@
 -- `plan::flow::walk`, which calls itself with one link fewer, meets its contract. Assumes nothing.
 use native.Mathlib.Omega.{arith}
 use borrow.Author.Tests.{lt-leb, le-leb}
-use Rattle.plan.proofs.Links.{walk-none, walk-more}
+use Rattle.pmachine.proofs.Links.{follow-none, follow-more}
 use Prim.Native.Nat.{ℕ, _<_}
 use borrow.Fn.Kinds.{In}
 use borrow.Fn.PlainCycle.{Measures, is, falls, and}
@@ -27,7 +27,7 @@ walk-returns : (t : ℕ) → walk-lts.Need-returns (
   walk-below t,
   walk.Post,
 ) (walk-at t) walk.Post
-walk-returns t c = simp (walk-none (c .before .before .args .region .now) (c .before .before .args .m) (c .before .before .args .d) (c .if1 .taken))
+walk-returns t c = simp (follow-none (c .before .before .args .region .now) (c .before .before .args .m) (c .before .before .args .d) (c .if1 .taken))
 
 walk-word-of-requires : (t : ℕ) → walk-lts.Need-word-of-requires (
   word-of-reads.Asked,
@@ -51,7 +51,7 @@ walk-returns-2 : (t : ℕ) → walk-lts.Need-returns-2 (
   walk-below t,
   walk.Post,
 ) (walk-at t) walk.Post
-walk-returns-2 t c = simp (walk-more (c .before .before .before .before .args .region .now) (c .before .before .before .before .args .m) (c .before .before .before .before .args .d) (c .before .before .if1 .left), ← c .before .word-of .ensures, lt-leb _ _ (c .if2 .taken))
+walk-returns-2 t c = simp (follow-more (c .before .before .before .before .args .region .now) (c .before .before .before .before .args .m) (c .before .before .before .before .args .d) (c .before .before .if1 .left), ← c .before .word-of .ensures, lt-leb _ _ (c .if2 .taken))
 
 walk-add-if3 : (t : ℕ) → walk-lts.Need-add-if3 (
   word-of-reads.Asked,
@@ -67,7 +67,7 @@ walk-returns-3 : (t : ℕ) → walk-lts.Need-returns-3 (
   walk-below t,
   walk.Post,
 ) (walk-at t) walk.Post
-walk-returns-3 t c = simp (walk-more (c .before .before .before .before .before .args .region .now) (c .before .before .before .before .before .args .m) (c .before .before .before .before .before .args .d) (c .before .before .before .if1 .left), ← c .before .before .word-of .ensures, lt-leb _ _ (c .if3 .taken), le-leb _ _ (c .before .if2 .left))
+walk-returns-3 t c = simp (follow-more (c .before .before .before .before .before .args .region .now) (c .before .before .before .before .before .args .m) (c .before .before .before .before .before .args .d) (c .before .before .before .if1 .left), ← c .before .before .word-of .ensures, lt-leb _ _ (c .if3 .taken), le-leb _ _ (c .before .if2 .left))
 
 walk-sub-walk : (t : ℕ) → walk-lts.Need-sub-walk (
   word-of-reads.Asked,
@@ -91,7 +91,7 @@ walk-returns-4 : (t : ℕ) → walk-lts.Need-returns-4 (
   walk-below t,
   walk.Post,
 ) (walk-at t) walk.Post
-walk-returns-4 t c = simp (walk-more (c .before .before .before .before .before .before .args .region .now) (c .before .before .before .before .before .before .args .m) (c .before .before .before .before .before .before .args .d) (c .before .before .before .before .if1 .left), ← c .walk .ensures, ← c .before .before .before .word-of .ensures, le-leb _ _ (c .before .if3 .left), le-leb _ _ (c .before .before .if2 .left))
+walk-returns-4 t c = simp (follow-more (c .before .before .before .before .before .before .args .region .now) (c .before .before .before .before .before .before .args .m) (c .before .before .before .before .before .before .args .d) (c .before .before .before .before .if1 .left), ← c .walk .ensures, ← c .before .before .before .word-of .ensures, le-leb _ _ (c .before .if3 .left), le-leb _ _ (c .before .before .if2 .left))
 
 pub +walk-spec : {M : Type 1} → statement M
 +walk-spec = close μ-walk λ t. walk-lts.spec (
