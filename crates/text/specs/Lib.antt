@@ -2,3 +2,4 @@
 pub mod Words
 pub mod Seen
 pub mod Joins
+pub mod Numbers

@@ -1,0 +1,85 @@
+-- The laws of a word as a number: one turn of each loop, and its end.
+-- Above it: the proofs of `numbers.rt`. Below it: the definitions. Assumes nothing.
+use Prim.Native.Nat.{ℕ, _+_, _*_, _-_, _/_, _^_, _≤_, _<_}
+use native.Mathlib.Omega.{arith}
+use native.Mathlib.Nat.{le-refl, le-trans, div-mul-le-self, lt-div-mul-add}
+use native.Mathlib.Numerals.{add-one}
+use mathlib.Core.Path.{_≡_, refl, sym, ap, _∙_}
+use mathlib.Core.Bool.{true, false}
+use mathlib.Core.List.{List, [], _∷_}
+use lib.ListN.{length, getD, drop, drop-of-length-le}
+use lib.Seq.{drop-cons}
+use borrow.Author.Tests.{lt-ltb, le-ltb}
+use Rattle.text.specs.Numbers.{digitByte, allDigits, valueFrom, fitted, numberOf}
+use Rattle.text.specs.declared.numbers.Number.{Number}
+use Rattle.text.specs.declared.numbers.Number.the-variants.{Value, Beyond, Not}
+
+-- ---- digits, of what is left at index i
+
+module _ (s : List ℕ) (i : ℕ) where
+  pub digits-end : length s ≤ i → allDigits s ≡ allDigits (drop i s) → true ≡ allDigits s
+  unfolding allDigits
+  digits-end h e = sym (e ∙ rw (drop-of-length-le s h))
+
+  pub digits-stop : i < length s → digitByte (getD s i 0) ≡ false → allDigits s ≡ allDigits (drop i s) → false ≡ allDigits s
+  unfolding allDigits
+  digits-stop h f e = sym (e ∙ rw (drop-cons s i 0 h, f))
+
+  pub digits-go : i < length s → digitByte (getD s i 0) ≡ true → allDigits s ≡ allDigits (drop i s) → allDigits s ≡ allDigits (drop (i + 1) s)
+  unfolding allDigits
+  digits-go h t e = e ∙ rw (drop-cons s i 0 h, t, add-one i)
+
+-- ---- the value
+
+-- more digits never make it less
+grows : (v : ℕ) (l : List ℕ) → v ≤ valueFrom v l
+unfolding valueFrom
+grows v [] = le-refl v
+grows v (b ∷ l) = let more : v ≤ 10 * v + (b - 48) = omega arith in le-trans more (grows (10 * v + (b - 48)) l)
+
+-- the test before a digit is taken
+pub fits : (v d most : ℕ) → d ≤ most → v ≤ (most - d) / 10 → 10 * v + d ≤ most
+fits v d most h l = omega (arith, div-mul-le-self (most - d) 10)
+
+over : (v d most : ℕ) → (most - d) / 10 < v → most < 10 * v + d
+over v d most l = omega (arith, lt-div-mul-add {a = most - d} {b = 10} (omega arith))
+
+fitted-value : (v : ℕ) → v < 2 ^ 64 → fitted v ≡ Value v
+unfolding fitted
+fitted-value v h = rw (lt-ltb v (2 ^ 64) h)
+
+fitted-beyond : (v : ℕ) → 2 ^ 64 ≤ v → fitted v ≡ Beyond
+unfolding fitted
+fitted-beyond v h = rw (le-ltb v (2 ^ 64) h)
+
+module _ (s : List ℕ) (i n v : ℕ) (e : n ≡ valueFrom v (drop i s)) where
+  pub value-ends : length s ≤ i → v < 2 ^ 64 → Value v ≡ fitted n
+  unfolding valueFrom
+  value-ends h l = sym (ap fitted (e ∙ rw (drop-of-length-le s h)) ∙ fitted-value v l)
+
+  pub value-goes : (d : ℕ) → i < length s → d ≡ getD s i 0 - 48 → n ≡ valueFrom (10 * v + d) (drop (i + 1) s)
+  unfolding valueFrom
+  value-goes d h q = e ∙ rw (drop-cons s i 0 h, q, add-one i)
+
+  pub value-stops : (d : ℕ) → i < length s → d ≡ getD s i 0 - 48 → (18446744073709551615 - d) / 10 < v → Beyond ≡ fitted n
+  value-stops d h q l =
+      let m : 18446744073709551615 < 10 * v + d = over v d 18446744073709551615 l in
+      let g : 10 * v + d ≤ n = rw (value-goes d h q) (grows (10 * v + d) (drop (i + 1) s)) in
+      sym (fitted-beyond n (omega arith))
+
+-- ---- the number
+
+pub number-none : (w : List ℕ) → length w ≡ 0 → Not ≡ numberOf w
+unfolding numberOf
+number-none [] h = refl
+number-none (b ∷ l) h = let z : ⊥ = omega arith in absurd z
+
+pub number-not : (w : List ℕ) → false ≡ allDigits w → Not ≡ numberOf w
+unfolding numberOf
+number-not [] h = refl
+number-not (b ∷ l) h = rw (sym h)
+
+pub number-is : (w : List ℕ) (r : Number) → (length w ≡ 0 → ⊥) → true ≡ allDigits w → r ≡ fitted (valueFrom 0 w) → r ≡ numberOf w
+unfolding numberOf
+number-is [] r n h e = absurd (n refl)
+number-is (b ∷ l) r n h e = e ∙ rw (sym h)
