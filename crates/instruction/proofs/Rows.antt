@@ -1,0 +1,54 @@
+-- What the packed number of a first byte tells of its row, digit by digit: one test that antt computes over the 256 bytes.
+-- Above: Steps and Decoding; below: the packed rows of `code`. Assumes nothing.
+use Prim.Native.Nat.{ℕ, _/_, _%_, _<_}
+use mathlib.Core.Path.{_≡_, refl, ap, _∙_}
+use mathlib.Core.Bool.{Bool, true}
+use mathlib.Core.List.{List, [], _∷_}
+use lib.Dec.{ltb, leb, eqb}
+use lib.ListN.{length, drop}
+use borrow.Author.Tests.{ne-eqb}
+use Rattle.basis.specs.Bools.{every}
+use Rattle.operand.specs.Operand.{Form, UB, SB, DB, B, W, got}
+use Rattle.pmachine.specs.Opcode.{Row, carried, uncarried, opcode}
+use Rattle.pmachine.proofs.Rows.{numbers, at-number}
+use Rattle.code.specs.Packed.{digit, packedForms, packed}
+use Rattle.instruction.specs.Standing.{leading}
+use Rattle.instruction.specs.Parts.{byDigit}
+
+-- the first operand's digit, 0 for none
+abbrev pub digitOf : List Form → ℕ
+digitOf [] = 0
+digitOf (f ∷ fs) = digit f
+
+unfoldable pub agrees : Row → ℕ → Bool
+agrees (carried forms taken given does) n =
+    every
+    (ltb n 2147483648 ∷ eqb (n / 65536 % 8) (digitOf forms) ∷ eqb (n / 524288 % 8) (digitOf (drop 1 forms)) ∷ leb (length forms) 2
+    ∷ eqb (n % 256) taken ∷ eqb (n / 256 % 256) given ∷ [])
+agrees uncarried n = leb 2147483648 n
+
+right : ℕ → Bool
+right b = agrees (opcode b) (packed (opcode b))
+
+tested : numbers right 256 ≡ true
+unfolding every agrees right opcode packed packedForms
+tested = refl
+
+pub row-agrees : (b n : ℕ) → b < 256 → n ≡ packed (opcode b) → agrees (opcode b) n ≡ true
+unfolding right
+row-agrees b n h q = ap (agrees (opcode b)) q ∙ at-number right 256 tested b h
+
+-- an operand by its digit is the operand by its form
+pub by-digit : (forms : List Form) (s : List ℕ) (at : ℕ) → byDigit (digitOf forms) s at ≡ leading forms s at
+unfolding byDigit leading
+by-digit [] s at = refl
+by-digit (UB ∷ fs) s at = refl
+by-digit (SB ∷ fs) s at = refl
+by-digit (DB ∷ fs) s at = refl
+by-digit (B ∷ fs) s at = refl
+by-digit (W ∷ fs) s at = refl
+
+-- a digit that is none of them
+pub no-digit : (d : ℕ) (s : List ℕ) (at : ℕ) → (d ≡ 1 → ⊥) → (d ≡ 2 → ⊥) → (d ≡ 3 → ⊥) → (d ≡ 4 → ⊥) → (d ≡ 5 → ⊥) → got 0 at ≡ byDigit d s at
+unfolding byDigit
+no-digit d s at a b e f g = rw (ne-eqb d 1 a, ne-eqb d 2 b, ne-eqb d 3 e, ne-eqb d 4 f, ne-eqb d 5 g)

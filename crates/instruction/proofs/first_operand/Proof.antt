@@ -1,0 +1,22 @@
+-- `instruction::first_operand` is what stands there by the row of the first byte. Assumes nothing.
+use mathlib.Core.Path.{sym, ap, _∙_}
+use borrow.Author.Needs.{needs}
+use Rattle.operand.specs.Operand.{fetchedOf}
+use Rattle.instruction.proofs.Rows.{row-agrees}
+use Rattle.instruction.proofs.Steps.{first-is}
+use Rattle.instruction.proofs.first_operand.Statement.{statement}
+use Rattle.instruction.proofs.first_operand.Tie as tie
+
+returns : tie.Need-returns
+returns c =
+    let p = c .before .before .before .before .before .before .pre in
+    c .second-operand .ensures ∙ first-is _ _ _ _ _ _ (row-agrees (c .before .before .before .before .before .before .args .first) _ (search needs) (p .0)) (p .1) (sym (ap fetchedOf (c .before .before .x .given .1)) ∙ c .before .before .before .before .by-form .ensures)
+
+returns-2 : tie.Need-returns-2
+returns-2 c =
+    let p = c .before .before .before .before .before .before .pre in
+    c .cut .ensures ∙ first-is _ _ _ _ _ _ (row-agrees (c .before .before .before .before .before .before .args .first) _ (search needs) (p .0)) (p .1) (sym (ap fetchedOf (c .before .before .x2 .given .1)) ∙ c .before .before .before .before .by-form .ensures)
+
+pub first-operand-spec : {M : Type 1} → statement M
+first-operand-spec =
+    tie.close (tie.spec (λ c κs. search needs) (λ c. search needs) (λ c κs. search needs) (λ c. search needs) (λ c κs. search needs) returns returns-2)
