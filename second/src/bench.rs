@@ -29,11 +29,11 @@ impl Slot {
 #[derive(Clone, Copy, Debug, PartialEq, Eq)]
 pub struct Record {
     pub open: bool,
-    pub slot: u32,
+    pub slot: u64,
     /// First word of the region in memory.
-    pub base: u32,
+    pub base: u64,
     /// L
-    pub length: u32,
+    pub length: u64,
     pub session: Session,
 }
 
@@ -47,9 +47,14 @@ impl Record {
         session: Session { sp: 0, m: 0, counter: 0, routine: 0, kind: Kind::Ready },
     };
 
-    /// The word after the region.
-    fn end(&self) -> u64 {
-        u64::from(self.base) + u64::from(self.length)
+    /// The word after the region, if such a number can be.
+    fn end(&self) -> Option<u64> {
+        self.base.checked_add(self.length)
+    }
+
+    /// Whether the region ends at or below a word.
+    fn ends_by(&self, word: u64) -> bool {
+        self.end().is_some_and(|end| end <= word)
     }
 }
 
@@ -58,9 +63,9 @@ impl Record {
 #[derive(Clone, Debug, PartialEq, Eq)]
 pub struct Bench {
     /// S
-    pub shared: u32,
+    pub shared: u64,
     /// N
-    pub words: u32,
+    pub words: u64,
     pub slots: [Slot; 16],
     pub records: [Record; 16],
 }
@@ -99,8 +104,8 @@ fn segment_of<'a>(store: &'a [u8], slot: &Slot) -> Option<Segment<'a>> {
 /// region lies from word S up and inside memory; no two regions overlap
 /// (touching is allowed); and every open session names a loaded slot [...]"
 pub fn is_sound(bench: &Bench, memory: &[u16], store: &[u8]) -> bool {
-    sizes_keep_limits(u64::from(bench.shared), u64::from(bench.words))
-        && memory.len() as u64 == u64::from(bench.words)
+    sizes_keep_limits(bench.shared, bench.words)
+        && memory.len() as u64 == bench.words
         && loaded_slots_are_good(bench, store)
         && regions_lie_well(bench)
         && regions_are_apart(bench)
@@ -119,16 +124,16 @@ fn loaded_slots_are_good(bench: &Bench, store: &[u8]) -> bool {
 /// "every open region lies from word S up and inside memory"
 fn regions_lie_well(bench: &Bench) -> bool {
     open_records(bench)
-        .all(|record| record.base >= bench.shared && record.end() <= u64::from(bench.words))
+        .all(|record| record.base >= bench.shared && record.ends_by(bench.words))
 }
 
 /// "no two regions overlap (touching is allowed)"
 fn regions_are_apart(bench: &Bench) -> bool {
     let open: Vec<Record> = open_records(bench).collect();
     open.iter().enumerate().all(|(index, one)| {
-        open.iter().skip(index + 1).all(|other| {
-            one.end() <= u64::from(other.base) || other.end() <= u64::from(one.base)
-        })
+        open.iter()
+            .skip(index + 1)
+            .all(|other| one.ends_by(other.base) || other.ends_by(one.base))
     })
 }
 
@@ -137,25 +142,26 @@ fn regions_are_apart(bench: &Bench) -> bool {
 /// routine number in 1..n and, if faulted, fault in 1..10 and place in 22..2W.
 /// G is DATASIZE of its routine 1."
 fn session_is_good(bench: &Bench, store: &[u8], record: &Record) -> bool {
-    let Some(slot) = loaded_slot(bench, u64::from(record.slot)) else {
+    let Some(slot) = loaded_slot(bench, record.slot) else {
         return false;
     };
     let Some(segment) = segment_of(store, &slot) else {
         return false;
     };
     let length = record.length;
-    let floor = 6 + segment.global_size();
+    let floor = 6 + u64::from(segment.global_size());
+    let bytes = 2 * u64::from(segment.words);
     let session = record.session;
     (16..=32_768).contains(&length)
         && floor <= length
         && (floor..=length).contains(&session.sp)
         && (1..=length - 5).contains(&session.m)
-        && (22..=2 * segment.words).contains(&session.counter)
-        && (1..=segment.count()).contains(&session.routine)
+        && (22..=bytes).contains(&session.counter)
+        && (1..=u64::from(segment.count())).contains(&session.routine)
         && match session.kind {
             Kind::Ready | Kind::Finished => true,
             Kind::Faulted { number, place } => {
-                (1..=10).contains(&number) && (22..=2 * segment.words).contains(&place)
+                (1..=10).contains(&number) && (22..=bytes).contains(&place)
             }
         }
 }
@@ -176,8 +182,8 @@ pub fn new_bench(shared: u64, words: u64) -> Result<Bench, Refusal> {
         return Err(refusal(17));
     }
     Ok(Bench {
-        shared: shared as u32,
-        words: words as u32,
+        shared,
+        words,
         slots: [Slot::EMPTY; 16],
         records: [Record::UNUSED; 16],
     })
@@ -236,10 +242,10 @@ pub fn open(
     if let Some(record) = bench.records.get_mut(number) {
         *record = Record {
             open: true,
-            slot: slot as u32,
-            base: base as u32,
-            length: length as u32,
-            session: machine::starting_state(&segment, length as u32),
+            slot,
+            base,
+            length,
+            session: machine::starting_state(&segment, length),
         };
     }
     Ok(number as u64)
@@ -248,14 +254,13 @@ pub fn open(
 /// "the lowest gap that fits, from word S up".  The lowest one begins at S or
 /// at the end of an open region, since else the word before it is free too.
 fn lowest_gap(bench: &Bench, length: u64) -> Option<u64> {
-    let mut begins = vec![u64::from(bench.shared)];
-    begins.extend(open_records(bench).map(|record| record.end()));
+    let mut begins = vec![bench.shared];
+    begins.extend(open_records(bench).filter_map(|record| record.end()));
     begins.sort_unstable();
     begins.into_iter().find(|&begin| {
         let end = begin + length;
-        end <= u64::from(bench.words)
-            && open_records(bench)
-                .all(|record| end <= u64::from(record.base) || record.end() <= begin)
+        end <= bench.words
+            && open_records(bench).all(|record| end <= record.base || record.ends_by(begin))
     })
 }
 
@@ -289,7 +294,7 @@ pub fn turn_by(
     if k > 65_535 {
         return Err(refusal(16));
     }
-    let segment = loaded_slot(bench, u64::from(record.slot))
+    let segment = loaded_slot(bench, record.slot)
         .and_then(|slot| segment_of(store, &slot))
         .ok_or(refusal(11))?;
     // "The first S words are shared"; the region lies from S up.

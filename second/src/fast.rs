@@ -1,20 +1,42 @@
 //! The machine's turn again in a fast form: one `match` in a loop, the state
-//! in locals, ordinary bounds checks.  It is the Rust side of a speed
-//! comparison and has to agree with `machine::turn`; what the instructions
-//! mean is said there.
+//! in locals, ordinary bounds checks.  It is the Rust side of the comparison in
+//! speed/ and has to agree with `machine::turn`; what the instructions mean is
+//! said there.
 
-use crate::machine::{self, Kind, Session};
-use crate::segment::Segment;
+use crate::machine::{self, Fault, Kind, Session};
+use crate::segment::{Segment, Sex};
+
+/// What the loop needs of a segment that passed checks 1 to 8.
+#[derive(Clone, Copy, Debug)]
+pub struct Code<'a> {
+    /// All 2W bytes.
+    pub bytes: &'a [u8],
+    /// D, n, pool pointer (0 for none), G
+    pub dictionary: usize,
+    pub count: usize,
+    pub pool: usize,
+    pub globals: usize,
+    pub most_first: bool,
+}
+
+/// SP, M, the counter and the current routine number.
+#[derive(Clone, Copy, Debug)]
+pub struct Registers {
+    pub sp: usize,
+    pub m: usize,
+    pub counter: usize,
+    pub routine: usize,
+}
 
 /// How a run ended.
-enum End {
+#[derive(Clone, Copy, Debug, PartialEq, Eq)]
+pub enum End {
     OutOfSteps,
     Finished,
-    Faulted(u32),
+    Faulted(Fault),
 }
 
 /// The same as `machine::turn`.
-#[allow(unused_assignments)] // a return reads its operand and then goes elsewhere
 pub fn turn(
     segment: &Segment,
     shared: &[u16],
@@ -25,27 +47,73 @@ pub fn turn(
     if k == 0 || session.kind != Kind::Ready {
         return 0;
     }
-    // What the loop below leans on; soundness gives it.  Without it the slow
-    // form answers.
-    let length = region.len();
-    let floor = 6 + segment.global_size() as usize;
-    let code = segment.bytes;
+    // What the loop leans on; soundness gives it.  Without it the slow form
+    // answers.
+    let length = region.len() as u64;
+    let floor = 6 + u64::from(segment.global_size());
     let good = (16..=32_768).contains(&length)
-        && (floor..=length).contains(&(session.sp as usize))
-        && (1..=length - 5).contains(&(session.m as usize))
-        && (22..=code.len()).contains(&(session.counter as usize))
-        && code.len() == 2 * segment.words as usize;
+        && shared.len() <= 32_768
+        && (floor..=length).contains(&session.sp)
+        && (1..=length - 5).contains(&session.m)
+        && (22..=segment.bytes.len() as u64).contains(&session.counter)
+        && (1..=u64::from(segment.count())).contains(&session.routine);
     if !good {
         return machine::turn(segment, shared, region, session, k);
     }
+    let code = Code {
+        bytes: segment.bytes,
+        dictionary: segment.dictionary as usize,
+        count: segment.routines.len(),
+        pool: segment.pool as usize,
+        globals: segment.global_size() as usize,
+        most_first: segment.sex == Sex::MostFirst,
+    };
+    let mut registers = Registers {
+        sp: session.sp as usize,
+        m: session.m as usize,
+        counter: session.counter as usize,
+        routine: session.routine as usize,
+    };
+    let (done, end) = run(&code, shared, region, &mut registers, k);
+    let place = registers.counter as u64;
+    *session = Session {
+        sp: registers.sp as u64,
+        m: registers.m as u64,
+        counter: place,
+        routine: registers.routine as u64,
+        kind: match end {
+            End::OutOfSteps => Kind::Ready,
+            End::Finished => Kind::Finished,
+            End::Faulted(number) => Kind::Faulted { number, place },
+        },
+    };
+    done
+}
 
-    let words = segment.words as usize;
-    let pool = segment.pool as usize;
+/// Word `number` of the segment, in its own sex.
+fn segment_word(code: &Code, number: usize) -> usize {
+    let pair = [code.bytes[2 * number], code.bytes[2 * number + 1]];
+    usize::from(if code.most_first { u16::from_be_bytes(pair) } else { u16::from_le_bytes(pair) })
+}
+
+/// At most k steps of a ready, sound session; the steps done, and how it ended.
+/// The registers are those after the last step that went well, so a fault's
+/// place is the counter.
+#[allow(unused_assignments)] // a return reads its operand and then goes elsewhere
+pub fn run(
+    segment: &Code,
+    shared: &[u16],
+    region: &mut [u16],
+    registers: &mut Registers,
+    k: u64,
+) -> (u64, End) {
+    let code = segment.bytes;
+    let length = region.len();
+    let floor = 6 + segment.globals;
+    let words = code.len() / 2;
+    let pool = segment.pool;
     let top_link = length - 5;
-    let mut sp = session.sp as usize;
-    let mut m = session.m as usize;
-    let mut counter = session.counter as usize;
-    let mut routine = session.routine as usize;
+    let Registers { mut sp, mut m, mut counter, mut routine } = *registers;
     let mut left = k;
 
     // `counter` stays on the first byte until the step is known to go well;
@@ -165,16 +233,18 @@ pub fn turn(
                 let index: usize = $index;
                 need!(1);
                 let base = region[sp] as usize;
-                let address = base + index;
-                if base == 0 || address > 65_535 {
+                if base == 0 {
                     fault!(6)
                 }
+                // S is at most 32,768, so a sum above 65,535 names no shared word
+                let address = base + index;
                 let word = if address < length {
                     region[address]
-                } else if address >= 32_768 && address - 32_768 < shared.len() {
-                    shared[address - 32_768]
                 } else {
-                    fault!(6)
+                    match shared.get(address.wrapping_sub(32_768)) {
+                        Some(&word) => word,
+                        None => fault!(6),
+                    }
                 };
                 region[sp] = word;
             }};
@@ -182,10 +252,11 @@ pub fn turn(
         macro_rules! call {
             ($parent:expr, $number:expr) => {{
                 let number: usize = $number;
-                let Some(called) = segment.routines.get(number.wrapping_sub(1)) else {
+                if number == 0 || number > segment.count {
                     fault!(8)
-                };
-                let needed = 5 + called.data_size as usize;
+                }
+                let entry = segment_word(segment, segment.dictionary + number);
+                let needed = 5 + segment_word(segment, entry);
                 if sp < floor + needed {
                     fault!(4)
                 }
@@ -196,7 +267,7 @@ pub fn turn(
                 region[sp + 3] = 1;
                 region[sp + 4] = routine as u16;
                 m = sp;
-                next = called.start as usize;
+                next = 2 * (entry + 1);
                 routine = number;
             }};
         }
@@ -315,7 +386,7 @@ pub fn turn(
                 if dynamic == 0
                     || dynamic > top_link
                     || caller == 0
-                    || caller > segment.routines.len()
+                    || caller > segment.count
                     || region[m + 3] != 1
                     || back < 22
                     || back > code.len()
@@ -436,14 +507,6 @@ pub fn turn(
         counter = next;
     };
 
-    session.sp = sp as u32;
-    session.m = m as u32;
-    session.counter = counter as u32;
-    session.routine = routine as u32;
-    session.kind = match end {
-        End::OutOfSteps => Kind::Ready,
-        End::Finished => Kind::Finished,
-        End::Faulted(number) => Kind::Faulted { number, place: counter as u32 },
-    };
-    k - left
+    *registers = Registers { sp, m, counter, routine };
+    (k - left, end)
 }

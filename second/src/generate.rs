@@ -1,12 +1,14 @@
-//! A seeded generator of cases near their limits, and the coverage they reach.
+//! A seeded generator of segments, sessions and benches near their limits.
 //! Nothing here decides what is right; it only makes inputs, and lists which
 //! outcomes document 01 makes possible (`possible_faults`,
-//! `possible_refusals`) so that a missing one is seen.
+//! `possible_refusals`) so that a missing one is seen.  `steps` makes single
+//! steps of them, `set` the cases that are written.
 
-use crate::bench::{self, Bench, Record};
+use crate::bench::{self, Bench, Record, Slot};
+use crate::damage::{damage, DAMAGES, LARGE};
 use crate::machine::{self, Form, Kind, Op, Session};
-use crate::segment::{self, Refusal, Segment, Sex};
-use std::collections::BTreeMap;
+use crate::segment::{Segment, Sex};
+use crate::world::{ask, blank_bench, Call, World};
 
 // ---------------------------------------------------------------- randomness
 
@@ -79,47 +81,11 @@ pub struct RunCase {
     pub k: u64,
 }
 
-/// A bench with what is lent.
-#[derive(Clone, Debug, PartialEq, Eq)]
-pub struct BenchCase {
-    pub bench: Bench,
-    pub memory: Vec<u16>,
-    pub store: Vec<u8>,
-}
-
-/// An entry asked for.
-#[derive(Clone, Copy, Debug, PartialEq, Eq)]
-pub enum Call {
-    New { shared: u64, words: u64 },
-    Load { slot: u64, start: u64, length: u64 },
-    Open { slot: u64, length: u64 },
-    Turn { session: u64, k: u64 },
-    Close { session: u64 },
-}
-
 /// Entries one after another on one bench.
 #[derive(Clone, Debug, PartialEq, Eq)]
 pub struct SequenceCase {
-    pub start: BenchCase,
+    pub start: World,
     pub calls: Vec<Call>,
-}
-
-/// Ask for one entry.  The number answered is the session opened, the steps
-/// done, or 0.  A `New` puts a new bench in the place of the old one.
-pub fn ask(case: &mut BenchCase, call: Call) -> Result<u64, Refusal> {
-    let BenchCase { bench, memory, store } = case;
-    match call {
-        Call::New { shared, words } => {
-            *bench = bench::new_bench(shared, words)?;
-            Ok(0)
-        }
-        Call::Load { slot, start, length } => {
-            bench::load(bench, memory, store, slot, start, length).map(|()| 0)
-        }
-        Call::Open { slot, length } => bench::open(bench, memory, store, slot, length),
-        Call::Turn { session, k } => bench::turn(bench, memory, store, session, k),
-        Call::Close { session } => bench::close(bench, memory, store, session).map(|()| 0),
-    }
 }
 
 // ----------------------------------------------------------------- segments
@@ -145,23 +111,32 @@ pub fn put_word(bytes: &mut [u8], sex: Sex, number: i64, value: i64) {
 /// What a drafted segment should be like.
 #[derive(Clone, Copy, Debug)]
 pub struct Wish {
+    pub least_words: i64,
     pub most_words: i64,
     pub most_routines: i64,
     pub most_data: i64,
-    /// Fill the code with instructions (else with random bytes).
+    /// Fill the code with instructions (else with bytes of no meaning, mostly
+    /// all alike).
     pub program: bool,
 }
 
 pub const ORDINARY: Wish =
-    Wish { most_words: 60, most_routines: 5, most_data: 9, program: true };
+    Wish { least_words: 16, most_words: 60, most_routines: 5, most_data: 9, program: true };
+
+/// Room for statements, so that sessions do something.
+pub const LIVELY: Wish =
+    Wish { least_words: 34, most_words: 90, most_routines: 3, most_data: 9, program: true };
 
 /// A segment drafted to pass checks 1 to 8; it may miss.
 fn draft(rng: &mut Rng, wish: Wish) -> Vec<u8> {
-    let words = rng.pick_in(&[16, 17, 18, 24, 40, wish.most_words], 16, wish.most_words);
+    let words = rng.pick_in(&[16, 17, 18, 24, 40, wish.most_words], wish.least_words, wish.most_words);
     let most_routines = ((words - 12) / 3).clamp(1, wish.most_routines);
     let count = rng.between(1, most_routines);
     let sex = if rng.chance(1, 2) { Sex::LeastFirst } else { Sex::MostFirst };
-    let mut bytes: Vec<u8> = (0..2 * words).map(|_| rng.next() as u8).collect();
+    let alike = rng.next() as u8;
+    let loose = wish.program || rng.chance(1, 8);
+    let mut bytes: Vec<u8> =
+        (0..2 * words).map(|_| if loose { rng.next() as u8 } else { alike }).collect();
 
     let last_start = words - 1 - count;
     let dictionary = rng.pick_in(&[11, 11, last_start], 11, last_start);
@@ -514,7 +489,12 @@ pub fn nearly_valid_segment(rng: &mut Rng) -> Vec<u8> {
     } else {
         ORDINARY
     };
-    let mut bytes = valid_segment(rng, wish);
+    let bytes = valid_segment(rng, wish);
+    beside_a_limit(rng, bytes)
+}
+
+/// One number of a valid segment put at or beside a limit of checks 1 to 8.
+pub fn beside_a_limit(rng: &mut Rng, mut bytes: Vec<u8>) -> Vec<u8> {
     let Ok(segment) = Segment::judge(&bytes) else { return bytes };
     let (sex, words, count) = (segment.sex, i64::from(segment.words), i64::from(segment.count()));
     let dictionary = i64::from(segment.dictionary);
@@ -582,7 +562,12 @@ pub fn nearly_valid_segment(rng: &mut Rng) -> Vec<u8> {
 
 /// A segment with random damage.
 pub fn damaged_segment(rng: &mut Rng) -> Vec<u8> {
-    let mut bytes = valid_segment(rng, ORDINARY);
+    let bytes = valid_segment(rng, ORDINARY);
+    with_damage(rng, bytes)
+}
+
+/// Some bytes changed at random, sometimes cut off.
+pub fn with_damage(rng: &mut Rng, mut bytes: Vec<u8>) -> Vec<u8> {
     for _ in 0..=rng.up_to(4) {
         let at = rng.up_to((bytes.len() as u64).saturating_sub(1)) as usize;
         let new = rng.next() as u8;
@@ -622,7 +607,7 @@ pub fn segment_case(rng: &mut Rng) -> SegmentCase {
 // ------------------------------------------------------- single instructions
 
 /// Words at the limits of addresses, links and integers.
-fn telling_word(rng: &mut Rng, length: i64, shared: i64) -> u16 {
+pub fn telling_word(rng: &mut Rng, length: i64, shared: i64) -> u16 {
     let limits = [
         0, 0, 1, 2, 5, 22, 32_767, 32_768, 32_769, 65_534, 65_535, 65_529, 300,
         length - 6, length - 5, length - 4, length - 1, length, length + 1,
@@ -636,115 +621,123 @@ fn telling_word(rng: &mut Rng, length: i64, shared: i64) -> u16 {
     }
 }
 
-/// A sound session in a region of telling words, for a segment.
-fn sound_session(rng: &mut Rng, segment: &Segment, shared: i64) -> (Vec<u16>, Session) {
+/// Integers at the limits of arithmetic; `beside` is another operand.
+pub fn telling_integer(rng: &mut Rng, beside: u16) -> u16 {
+    let limits: [u16; 14] = [
+        0, 1, 2, 3, 300, 255, 256, 32_767, 32_768, 32_769, 65_529, 65_534, 65_535, 181,
+    ];
+    match rng.up_to(7) {
+        0 => beside,
+        1 => beside.wrapping_add(rng.pick(&[1, 65_535, 32_768], 1)),
+        2 => rng.next() as u16,
+        _ => rng.pick(&limits, 0),
+    }
+}
+
+/// A length of region, mostly near the least that fits.
+fn region_length(rng: &mut Rng, segment: &Segment) -> i64 {
     let floor = 6 + i64::from(segment.global_size());
     let lowest = floor.max(16);
-    let length = match rng.up_to(199) {
+    match rng.up_to(199) {
         0 => 32_768,
         1 => rng.between(lowest, 32_768),
+        2..=7 => rng.between(lowest, lowest + 700),
         _ => rng.pick_in(&[lowest, lowest, lowest + 1, 17, 18, 21, 22, 30, 45, 70], lowest, lowest + 90),
-    };
-    let mut region: Vec<u16> =
-        (0..length).map(|_| telling_word(rng, length, shared)).collect();
+    }
+}
+
+/// The words of a region: many telling ones, the others alike.  A large region
+/// has them at its ends.
+fn region_words(rng: &mut Rng, length: i64, shared: i64) -> Vec<u16> {
+    let alike = rng.pick(&[0, 0, 0, 1, 22], 0);
+    (0..length)
+        .map(|at| {
+            let near = at < 30 || at >= length - 40;
+            if near && rng.chance(1, 2) { telling_word(rng, length, shared) } else { alike }
+        })
+        .collect()
+}
+
+/// Sound registers, mostly at their limits.
+pub fn registers(rng: &mut Rng, segment: &Segment, length: i64) -> Session {
+    let floor = 6 + i64::from(segment.global_size());
     let m = rng.pick_in(&[1, 1, 2, length - 5, length - 5, length - 6], 1, length - 5);
     let sp = rng.pick_in(
         &[floor, floor, floor + 1, length, length - 1, length - 2, length - 3, length - 4],
         floor,
         length,
     );
-    // The mark at M: often a good one, sometimes with one word spoilt.
-    if rng.chance(3, 4) {
-        let words = i64::from(segment.words);
-        let count = i64::from(segment.count());
-        let mut mark = [
-            rng.pick_in(&[1, m, length - 5], 1, length - 5),
-            rng.pick_in(&[1, m, length - 5], 1, length - 5),
-            rng.pick_in(&[22, 2 * words], 22, 2 * words),
-            1,
-            rng.pick_in(&[1, count], 1, count),
-        ];
-        if rng.chance(1, 3) {
-            let (index, value) = match rng.up_to(4) {
-                0 => (0, rng.pick(&[0, length - 4, 65_535], 0)),
-                1 => (1, rng.pick(&[0, length - 4, 65_535], 0)),
-                2 => (2, rng.pick(&[0, 21, 2 * words + 1, 65_535], 0)),
-                3 => (3, rng.pick(&[0, 2, 257, 65_535], 0)),
-                _ => (4, rng.pick(&[0, count + 1, 256, 65_535], 0)),
-            };
-            if let Some(word) = mark.get_mut(index) {
-                *word = value;
-            }
-        }
-        for (place, word) in region.iter_mut().skip(m as usize).zip(mark) {
-            *place = word as u16;
+    Session {
+        sp: sp as u64,
+        m: m as u64,
+        counter: rng.between(22, 2 * i64::from(segment.words)) as u64,
+        routine: rng.between(1, i64::from(segment.count())) as u64,
+        kind: Kind::Ready,
+    }
+}
+
+/// A mark: often a good one, sometimes with one word spoilt.
+pub fn telling_mark(rng: &mut Rng, segment: &Segment, length: i64, m: i64) -> [u16; 5] {
+    let words = i64::from(segment.words);
+    let count = i64::from(segment.count());
+    let mut mark = [
+        rng.pick_in(&[1, m, length - 5], 1, length - 5),
+        rng.pick_in(&[1, m, length - 5], 1, length - 5),
+        rng.pick_in(&[22, 2 * words], 22, 2 * words),
+        1,
+        rng.pick_in(&[1, count], 1, count),
+    ];
+    if rng.chance(2, 5) {
+        let (index, value) = match rng.up_to(4) {
+            0 => (0, rng.pick(&[0, length - 4, 65_535], 0)),
+            1 => (1, rng.pick(&[0, length - 4, 65_535], 0)),
+            2 => (2, rng.pick(&[0, 21, 2 * words + 1, 65_535], 0)),
+            3 => (3, rng.pick(&[0, 2, 257, 65_535], 0)),
+            _ => (4, rng.pick(&[0, count + 1, count + 1, 256, 65_535], 0)),
+        };
+        if let Some(word) = mark.get_mut(index) {
+            *word = value;
         }
     }
-    let session = Session {
-        sp: sp as u32,
-        m: m as u32,
-        counter: rng.between(22, 2 * i64::from(segment.words)) as u32,
-        routine: rng.between(1, i64::from(segment.count())) as u32,
-        kind: Kind::Ready,
-    };
+    mark.map(|word| word as u16)
+}
+
+/// A sound session in a region of telling words, for a segment.
+fn sound_session(rng: &mut Rng, segment: &Segment, shared: i64) -> (Vec<u16>, Session) {
+    let length = region_length(rng, segment);
+    let mut region = region_words(rng, length, shared);
+    let session = registers(rng, segment, length);
+    if rng.chance(3, 4) {
+        let mark = telling_mark(rng, segment, length, session.m as i64);
+        for (place, word) in region.iter_mut().skip(session.m as usize).zip(mark) {
+            *place = word;
+        }
+    }
     (region, session)
 }
 
-/// A case that meets one first byte near a limit of its own, or, for `None`,
-/// the end of the segment.
-pub fn single_case(rng: &mut Rng, first: Option<u8>) -> RunCase {
-    loop {
-        let mut bytes = valid_segment(rng, Wish { program: false, ..ORDINARY });
-        let shared_length = rng.pick(&[0, 1, 2, 7, 40], 0);
-        let shared: Vec<u16> = (0..shared_length).map(|_| rng.next() as u16).collect();
-        let Ok(segment) = Segment::judge(&bytes) else { continue };
-        let (region, mut session) = sound_session(rng, &segment, shared_length);
-        let global_size = segment.global_size();
-        let end = bytes.len() as i64;
+/// The shared words: as many as given, telling ones and others alike.
+fn shared_words(rng: &mut Rng, count: i64) -> Vec<u16> {
+    let alike = rng.up_to(300) as u16;
+    (0..count)
+        .map(|at| if at < 8 && rng.chance(1, 2) { rng.next() as u16 } else { alike })
+        .collect()
+}
 
-        let Some(first) = first else {
-            session.counter = end as u32;
-            return RunCase { segment: bytes, shared, region, session, k: 1 };
-        };
-
-        // Where it stands: somewhere, at the very end, or cut off by the end.
-        let size = 1 + operand_size(first, rng);
-        let place = match rng.up_to(4) {
-            0 => end - size,
-            1 => end - rng.between(1, size),
-            _ => rng.between(22, end - size),
-        };
-        if place < 22 {
-            continue;
-        }
-        let mut code = vec![first];
-        if let Some(instruction) = machine::instruction(first) {
-            let view = View { segment: &segment, region: &region, session: &session, shared_length };
-            telling_operands(rng, &instruction, &view, place + size, size, &mut code);
-        }
-        for (at, byte) in (place as usize..).zip(code) {
-            if let Some(spot) = bytes.get_mut(at) {
-                *spot = byte;
-            }
-        }
-        session.counter = place as u32;
-
-        // The instruction may have been laid over the segment's own words; the
-        // case is kept if it is still a sound one.
-        let kept = match Segment::judge(&bytes) {
-            Ok(now) => {
-                now.global_size() == global_size && session.routine <= now.count()
-            }
-            Err(_) => false,
-        };
-        if kept {
-            return RunCase { segment: bytes, shared, region, session, k: 1 };
-        }
-    }
+/// A sound session of a segment without a program: a place for single steps.
+pub fn session_case(rng: &mut Rng) -> RunCase {
+    let bytes = valid_segment(rng, Wish { program: false, ..ORDINARY });
+    let count = if rng.chance(1, 100) { 32_768 } else { rng.pick(&[0, 1, 2, 7, 40], 0) };
+    let shared = shared_words(rng, count);
+    let (region, session) = match Segment::judge(&bytes) {
+        Ok(segment) => sound_session(rng, &segment, count),
+        Err(_) => (vec![0; 16], Record::UNUSED.session),
+    };
+    RunCase { segment: bytes, shared, region, session, k: 1 }
 }
 
 /// Bytes of operands; a B gets one or two.
-fn operand_size(first: u8, rng: &mut Rng) -> i64 {
+pub fn operand_size(first: u8, rng: &mut Rng) -> i64 {
     let big = rng.between(1, 2);
     match machine::instruction(first).map(|instruction| instruction.form) {
         None | Some(Form::Nothing) => 0,
@@ -755,11 +748,12 @@ fn operand_size(first: u8, rng: &mut Rng) -> i64 {
     }
 }
 
-struct View<'a> {
-    segment: &'a Segment<'a>,
-    region: &'a [u16],
-    session: &'a Session,
-    shared_length: i64,
+/// What the operands are chosen by.
+pub struct View<'a> {
+    pub segment: &'a Segment<'a>,
+    pub region: &'a [u16],
+    pub session: &'a Session,
+    pub shared_length: i64,
 }
 
 impl View<'_> {
@@ -769,7 +763,7 @@ impl View<'_> {
 }
 
 /// Operands at and beside the limits that this state sets.
-fn telling_operands(
+pub fn telling_operands(
     rng: &mut Rng,
     instruction: &machine::Instruction,
     view: &View,
@@ -781,7 +775,7 @@ fn telling_operands(
     let words = i64::from(view.segment.words);
     let count = i64::from(view.segment.count());
     let floor = 6 + i64::from(view.segment.global_size());
-    let m = i64::from(view.session.m);
+    let m = view.session.m as i64;
     let mut links = i64::from(instruction.links);
 
     if matches!(instruction.form, Form::DbB | Form::DbUb) {
@@ -810,7 +804,7 @@ fn telling_operands(
             limits.extend([0, 1, 2]);
         }
         Op::LoadIndexed => {
-            let base = view.word(i64::from(view.session.sp));
+            let base = view.word(view.session.sp as i64);
             for target in [length, 32_768, 32_768 + view.shared_length, 65_536] {
                 limits.extend(around(target - base));
             }
@@ -902,7 +896,7 @@ pub fn possible_faults(first: u8) -> &'static [u32] {
 }
 
 /// Whether a step with this first byte can go well.
-fn can_go_well(first: u8) -> bool {
+pub fn can_go_well(first: u8) -> bool {
     possible_faults(first) != [2]
 }
 
@@ -912,21 +906,6 @@ pub const FINISHED: u32 = 11;
 
 /// The first byte (`None` beyond the end) and what the step came to.
 pub type Outcome = (Option<u8>, u32);
-
-/// Run one step of a case by the plain machine and say what it came to.
-pub fn outcome(case: &RunCase) -> Outcome {
-    let first = case.segment.get(case.session.counter as usize).copied();
-    let Ok(segment) = Segment::judge(&case.segment) else { return (first, GONE_ON) };
-    let mut region = case.region.clone();
-    let mut session = case.session;
-    machine::step(&segment, &case.shared, &mut region, &mut session);
-    let came_to = match session.kind {
-        Kind::Ready => GONE_ON,
-        Kind::Finished => FINISHED,
-        Kind::Faulted { number, .. } => number,
-    };
-    (first, came_to)
-}
 
 /// Every outcome that document 01 makes possible.
 pub fn possible_outcomes() -> Vec<Outcome> {
@@ -943,75 +922,52 @@ pub fn possible_outcomes() -> Vec<Outcome> {
     possible
 }
 
-/// Single steps of all 256 first bytes (and of the end of the segment) until
-/// each possible outcome is there `wanted` times.  More common outcomes are
-/// kept three times as often at most.
-pub fn single_cases(seed: u64, wanted: usize) -> (Vec<RunCase>, BTreeMap<Outcome, usize>) {
-    let mut rng = Rng(seed);
-    let mut cases = Vec::new();
-    let mut seen: BTreeMap<Outcome, usize> = BTreeMap::new();
-    let possible = possible_outcomes();
-    for first in std::iter::once(None).chain((0..=255).map(Some)) {
-        let hoped: Vec<Outcome> =
-            possible.iter().filter(|(byte, _)| *byte == first).copied().collect();
-        for _ in 0..4_000 {
-            if hoped.iter().all(|outcome| seen.get(outcome).copied().unwrap_or(0) >= wanted) {
-                break;
-            }
-            let case = single_case(&mut rng, first);
-            let count = seen.entry(outcome(&case)).or_insert(0);
-            if *count < 3 * wanted {
-                *count += 1;
-                cases.push(case);
-            }
-        }
-    }
-    (cases, seen)
-}
-
 // --------------------------------------------------------------------- runs
 
 /// A run of some steps, from the starting state or from some sound one.
 pub fn run_case(rng: &mut Rng) -> RunCase {
     let wish = match rng.up_to(9) {
-        0 => Wish { most_words: 400, ..ORDINARY },
-        _ => Wish { most_words: 120, ..ORDINARY },
+        0 => Wish { most_words: 400, ..LIVELY },
+        1 | 2 => ORDINARY,
+        _ => Wish { most_words: 120, ..LIVELY },
     };
     let segment_bytes = valid_segment(rng, wish);
     let shared_length = rng.pick(&[0, 1, 7, 40], 0);
-    let shared: Vec<u16> = (0..shared_length).map(|_| rng.next() as u16).collect();
+    let shared = shared_words(rng, shared_length);
     let (mut region, mut session) = match Segment::judge(&segment_bytes) {
         Ok(segment) => sound_session(rng, &segment, shared_length),
         Err(_) => (vec![0; 16], Record::UNUSED.session),
     };
     if rng.chance(2, 3) {
         if let Ok(segment) = Segment::judge(&segment_bytes) {
-            let length = rng.between(i64::from(segment.global_size()) + 16, 150) as u32;
+            let length = rng.between(i64::from(segment.global_size()) + 16, 150) as u64;
             session = machine::starting_state(&segment, length);
             region = vec![0; length as usize];
         }
     }
-    let k = rng.pick(&[0, 1, 2, 9, 100, 100, 400, 65_535], 9);
+    let k = rng.pick(&[0, 9, 100, 400, 1_000, 1_000, 4_000, 65_535], 9);
     RunCase { segment: segment_bytes, shared, region, session, k }
 }
 
 // -------------------------------------------------------------------- benches
 
 /// A sound bench with loaded slots and open sessions.
-pub fn sound_bench(rng: &mut Rng) -> BenchCase {
+pub fn sound_bench(rng: &mut Rng) -> World {
     let shared = rng.pick(&[0u64, 0, 1, 5, 40], 0);
-    let words = shared + rng.pick(&[0u64, 15, 16, 40, 100, 300, 800, 2_000], 100);
-    let memory: Vec<u16> = (0..words).map(|_| rng.next() as u16).collect();
+    let words = shared + rng.pick(&[0u64, 15, 16, 60, 100, 200, 200, 300, 400, 600], 100);
+    let alike = rng.pick(&[0, 9, 65_535], 0);
+    let memory: Vec<u16> =
+        (0..words).map(|_| if rng.chance(1, 20) { rng.next() as u16 } else { alike }).collect();
     let mut store = Vec::new();
     let mut ranges = Vec::new();
-    for _ in 0..=rng.up_to(3) {
+    for _ in 0..=rng.up_to(2) {
         for _ in 0..rng.pick(&[0, 0, 2, 6], 0) {
             store.push(rng.next() as u8);
         }
         let bytes = if rng.chance(1, 5) {
             nearly_valid_segment(rng)
         } else {
-            valid_segment(rng, ORDINARY)
+            valid_segment(rng, LIVELY)
         };
         if store.len() % 2 == 1 {
             store.push(0);
@@ -1020,18 +976,19 @@ pub fn sound_bench(rng: &mut Rng) -> BenchCase {
         store.extend(bytes);
     }
     let Ok(bench) = bench::new_bench(shared, words) else {
-        return BenchCase { bench: blank_bench(), memory: Vec::new(), store };
+        return World { store, ..World::blank() };
     };
-    let mut case = BenchCase { bench, memory, store };
+    let mut case = World { bench, memory, store };
     for (start, length) in ranges {
         let slot = rng.up_to(15);
         let _ = ask(&mut case, Call::Load { slot, start, length });
     }
     let loaded = loaded_slots(&case.bench);
-    let openings = rng.pick(&[0, 1, 2, 3, 5, 18], 2);
+    let openings = rng.pick(&[0, 1, 2, 3, 3, 4, 5, 18], 2);
     for _ in 0..openings {
         let slot = rng.pick(&loaded, 0);
-        let length = rng.between(16, 60) as u64;
+        let most = if openings > 16 { 20 } else { 60 };
+        let length = rng.between(16, most) as u64;
         let _ = ask(&mut case, Call::Open { slot, length });
     }
     for _ in 0..rng.up_to(4) {
@@ -1045,238 +1002,16 @@ pub fn sound_bench(rng: &mut Rng) -> BenchCase {
     case
 }
 
-fn blank_bench() -> Bench {
-    Bench { shared: 0, words: 0, slots: [bench::Slot::EMPTY; 16], records: [Record::UNUSED; 16] }
-}
-
 fn loaded_slots(bench: &Bench) -> Vec<u64> {
     (0..16).zip(bench.slots).filter(|(_, slot)| slot.loaded).map(|(number, _)| number).collect()
 }
 
-fn open_sessions(bench: &Bench) -> Vec<u64> {
+pub fn open_sessions(bench: &Bench) -> Vec<u64> {
     (0..16).zip(bench.records).filter(|(_, record)| record.open).map(|(number, _)| number).collect()
 }
 
-/// The fields of a bench that can be damaged, each with values just inside and
-/// just outside its limits.
-pub const DAMAGES: [&str; 31] = [
-    "S just at a limit", "S beyond 32,768", "S beyond N", "N beyond 1,048,576",
-    "memory one word short", "memory one word long", "slot range to the store's end",
-    "slot range beyond the store", "slot start far beyond", "slot length odd",
-    "segment in a slot spoilt", "region below S", "region at N", "region beyond N",
-    "regions touch", "regions overlap", "slot named is 16 or more", "slot named not loaded",
-    "L below 16", "L below 6+G", "SP at a limit", "SP outside", "M at a limit", "M outside",
-    "counter at a limit", "counter outside", "routine at a limit", "routine outside",
-    "fault and place at a limit", "fault outside 1..10", "place outside 22..2W",
-];
-
-/// Damage one field of a sound bench.  Answers whether the bench is sound
-/// after it, as 01's sentence has it, or `None` if the bench offers no such
-/// field (no slot loaded, no session open, ...).
-pub fn damage(rng: &mut Rng, case: &mut BenchCase, kind: &str) -> Option<bool> {
-    let sessions = open_sessions(&case.bench);
-    let session = *sessions.get(rng.up_to((sessions.len() as u64).max(1) - 1) as usize)? as usize;
-    let record = *case.bench.records.get(session)?;
-    let slot = *case.bench.slots.get(record.slot as usize)?;
-    let bytes = case.store.get(slot.start as usize..(slot.start + slot.length) as usize)?;
-    let segment = Segment::judge(bytes).ok()?;
-    let (words, count) = (segment.words, segment.count());
-    let floor = 6 + segment.global_size();
-    let entry = segment.routine(1)?.entry;
-    let sex = segment.sex;
-    let (shared, all) = (case.bench.shared, case.bench.words);
-    let others: Vec<Record> = case
-        .bench
-        .records
-        .iter()
-        .enumerate()
-        .filter(|(number, other)| other.open && *number != session)
-        .map(|(_, other)| *other)
-        .collect();
-    let lowest_base =
-        case.bench.records.iter().filter(|other| other.open).map(|other| other.base).min()?;
-    let store_length = case.store.len() as u64;
-    let named = record.slot as usize;
-    let length = record.length;
-    let bench = &mut case.bench;
-    let field = bench.records.get_mut(session)?;
-    match kind {
-        "S just at a limit" => {
-            // S may rise to the lowest region
-            bench.shared = lowest_base;
-            Some(lowest_base <= 32_768)
-        }
-        "S beyond 32,768" => {
-            // a memory large enough, all regions above the new S
-            let by = 32_769 - lowest_base.min(32_768);
-            for other in bench.records.iter_mut().filter(|other| other.open) {
-                other.base += by;
-            }
-            bench.shared = rng.pick(&[32_769, 32_768 + 1], 32_769);
-            bench.words += by;
-            case.memory.resize(bench.words as usize, 3);
-            Some(false)
-        }
-        "S beyond N" => {
-            bench.shared = all + 1;
-            Some(false)
-        }
-        "N beyond 1,048,576" => {
-            bench.words = 1_048_577;
-            case.memory.resize(1_048_577, 0);
-            Some(false)
-        }
-        "memory one word short" => {
-            case.memory.pop();
-            Some(false)
-        }
-        "memory one word long" => {
-            case.memory.push(9);
-            Some(false)
-        }
-        "slot range to the store's end" => {
-            // the slot's bytes moved to the very end of the store
-            let copy = case.store.get(slot.start as usize..(slot.start + slot.length) as usize)?;
-            let copy = copy.to_vec();
-            bench.slots.get_mut(named)?.start = store_length;
-            case.store.extend(copy);
-            Some(true)
-        }
-        "slot range beyond the store" => {
-            let copy = case.store.get(slot.start as usize..(slot.start + slot.length) as usize)?;
-            let copy = copy.to_vec();
-            bench.slots.get_mut(named)?.start = store_length;
-            case.store.extend(copy);
-            case.store.pop();
-            Some(false)
-        }
-        "slot start far beyond" => {
-            bench.slots.get_mut(named)?.start =
-                rng.pick(&[u64::MAX, u64::MAX - slot.length, store_length + 2, 1 << 32], u64::MAX);
-            Some(false)
-        }
-        "slot length odd" => {
-            bench.slots.get_mut(named)?.length -= 1;
-            Some(false)
-        }
-        "segment in a slot spoilt" => {
-            let range = slot.start as usize..(slot.start + slot.length) as usize;
-            let bytes = case.store.get_mut(range)?;
-            match rng.up_to(3) {
-                0 => *bytes.get_mut(12)? = 2,
-                1 => put_word(bytes, sex, 1, 1),
-                2 => put_word(bytes, sex, i64::from(entry), 32_768),
-                _ => put_word(bytes, sex, i64::from(entry) - 1, 21),
-            }
-            Some(false)
-        }
-        "region below S" => {
-            if shared == 0 {
-                return None;
-            }
-            field.base = shared - 1;
-            Some(false)
-        }
-        "region at N" => {
-            field.base = all - length;
-            Some(others.iter().all(|o| o.base + o.length <= all - length))
-        }
-        "region beyond N" => {
-            field.base = all - length + 1;
-            Some(false)
-        }
-        "regions touch" => {
-            let other = others.first()?;
-            field.base = other.base + other.length;
-            let (begin, end) = (field.base, field.base + length);
-            Some(end <= all && others.iter().all(|o| end <= o.base || o.base + o.length <= begin))
-        }
-        "regions overlap" => {
-            let other = others.first()?;
-            field.base = other.base + other.length - 1;
-            Some(false)
-        }
-        "slot named is 16 or more" => {
-            field.slot = rng.pick(&[16, 17, 255, 256 + record.slot, u32::MAX], 16);
-            Some(false)
-        }
-        "slot named not loaded" => {
-            bench.slots.get_mut(named)?.loaded = false;
-            Some(false)
-        }
-        "L below 16" => {
-            field.length = rng.pick(&[15, 15, 0, 1], 15);
-            field.session.sp = field.length;
-            field.session.m = 1;
-            Some(false)
-        }
-        "L below 6+G" => {
-            if floor <= 16 {
-                // make G large instead: 6+G is L+1
-                let range = slot.start as usize..(slot.start + slot.length) as usize;
-                let bytes = case.store.get_mut(range)?;
-                put_word(bytes, sex, i64::from(entry), i64::from(length) - 5);
-                return Segment::judge(bytes).is_ok().then_some(false);
-            }
-            field.length = floor - 1;
-            field.session.sp = floor - 1;
-            field.session.m = 1;
-            Some(false)
-        }
-        "SP at a limit" => {
-            field.session.sp = rng.pick(&[floor, length], length);
-            Some(true)
-        }
-        "SP outside" => {
-            field.session.sp = rng.pick(&[floor - 1, length + 1, 0, u32::MAX], 0);
-            Some(false)
-        }
-        "M at a limit" => {
-            field.session.m = rng.pick(&[1, length - 5], 1);
-            Some(true)
-        }
-        "M outside" => {
-            field.session.m = rng.pick(&[0, length - 4, length, u32::MAX], 0);
-            Some(false)
-        }
-        "counter at a limit" => {
-            field.session.counter = rng.pick(&[22, 2 * words], 22);
-            Some(true)
-        }
-        "counter outside" => {
-            field.session.counter = rng.pick(&[21, 2 * words + 1, 0, u32::MAX], 0);
-            Some(false)
-        }
-        "routine at a limit" => {
-            field.session.routine = rng.pick(&[1, count], 1);
-            Some(true)
-        }
-        "routine outside" => {
-            field.session.routine = rng.pick(&[0, count + 1, u32::MAX], 0);
-            Some(false)
-        }
-        "fault and place at a limit" => {
-            let number = rng.pick(&[1, 10], 1);
-            let place = rng.pick(&[22, 2 * words], 22);
-            field.session.kind = Kind::Faulted { number, place };
-            Some(true)
-        }
-        "fault outside 1..10" => {
-            let number = rng.pick(&[0, 11, u32::MAX], 0);
-            field.session.kind = Kind::Faulted { number, place: 22 };
-            Some(false)
-        }
-        "place outside 22..2W" => {
-            let place = rng.pick(&[21, 2 * words + 1, 0, u32::MAX], 0);
-            field.session.kind = Kind::Faulted { number: 1, place };
-            Some(false)
-        }
-        _ => None,
-    }
-}
-
 /// An entry to ask for, mostly a sensible one.
-pub fn call(rng: &mut Rng, case: &BenchCase) -> Call {
+pub fn call(rng: &mut Rng, case: &World) -> Call {
     let odd_number = rng.pick(&[15, 16, 17, 256, 65_536, 4_000_000_000, u64::MAX], 16);
     let loaded = loaded_slots(&case.bench);
     let open = open_sessions(&case.bench);
@@ -1303,7 +1038,7 @@ pub fn call(rng: &mut Rng, case: &BenchCase) -> Call {
         1 => {
             // reload a range that some slot has
             let known = case.bench.slots.get(rng.pick(&loaded, 0) as usize).copied();
-            let known = known.unwrap_or(bench::Slot::EMPTY);
+            let known = known.unwrap_or(Slot::EMPTY);
             Call::Load { slot: number(rng, &[any]), start: known.start, length: known.length }
         }
         2..=4 => {
@@ -1314,7 +1049,8 @@ pub fn call(rng: &mut Rng, case: &BenchCase) -> Call {
             Call::Open { slot: number(rng, &loaded), length }
         }
         5..=10 => {
-            let k = rng.pick(&[0, 1, 2, 9, 30, 200, 65_535, 65_536, u64::MAX], 9);
+            let k = rng.pick(&[0, 1, 2, 9, 30, 30, 200, 200, 1_000, 65_536, u64::MAX], 9);
+            let k = if rng.chance(1, 60) { 65_535 } else { k };
             Call::Turn { session: number(rng, &open), k }
         }
         11 => Call::Close { session: number(rng, &open) },
@@ -1335,7 +1071,7 @@ pub fn sequence_case(rng: &mut Rng) -> SequenceCase {
         let mut spoilt = start.clone();
         let kind = rng.pick(&DAMAGES, "M outside");
         // the million-word memories are left to the damage cases
-        if kind != "N beyond 1,048,576" && damage(rng, &mut spoilt, kind).is_some() {
+        if kind != LARGE && damage(rng, &mut spoilt, kind).is_some() {
             start = spoilt;
         }
     }
@@ -1349,7 +1085,7 @@ pub fn sequence_case(rng: &mut Rng) -> SequenceCase {
     SequenceCase { start, calls }
 }
 
-// ------------------------------------------------------------------- coverage
+// ------------------------------------------------------------------- refusals
 
 /// Which refusals each entry can give; 0 is none.  "Order: loading 11, 12, 17,
 /// then 1 to 8. Turning 1 to 10. Opening 11, 12, 13, 14, 15. Turn and closing
@@ -1363,20 +1099,6 @@ pub fn possible_refusals() -> [(&'static str, &'static [u32]); 6] {
         ("turn", &[0, 11, 12, 16]),
         ("closing", &[0, 11, 12]),
     ]
-}
-
-fn entry_name(call: &Call) -> &'static str {
-    match call {
-        Call::New { .. } => "new bench",
-        Call::Load { .. } => "loading",
-        Call::Open { .. } => "opening",
-        Call::Turn { .. } => "turn",
-        Call::Close { .. } => "closing",
-    }
-}
-
-fn number_of<T>(answer: &Result<T, Refusal>) -> u32 {
-    answer.as_ref().err().map_or(0, |refusal| refusal.number)
 }
 
 /// A loading of each sort of nearly valid segment, on an empty bench, so that
@@ -1394,179 +1116,9 @@ pub fn loading_case(rng: &mut Rng) -> SequenceCase {
     store.extend(vec![7; rng.pick(&[0usize, 1, 8], 0)]);
     let length = length + rng.pick(&[0, 0, 0, 0, 2, 10], 0);
     let bench = bench::new_bench(0, 0).unwrap_or_else(|_| blank_bench());
-    let start = BenchCase { bench, memory: Vec::new(), store };
+    let start = World { bench, memory: Vec::new(), store };
     let slot = rng.pick(&[0, 3, 15, 15, 16], 0);
     let call = Call::Load { slot, start: lead, length };
     // the second asks for a loaded slot, if the first went well
     SequenceCase { start, calls: vec![call, call] }
-}
-
-/// All that was seen.
-#[derive(Clone, Debug, Default)]
-pub struct Coverage {
-    pub steps: BTreeMap<Outcome, usize>,
-    pub refusals: BTreeMap<(&'static str, u32), usize>,
-    pub damages: BTreeMap<(&'static str, bool), usize>,
-    pub run_ends: BTreeMap<u32, usize>,
-    pub run_steps: u64,
-    /// First bytes met in runs.
-    pub run_bytes: BTreeMap<u8, usize>,
-    pub faults: Vec<String>,
-}
-
-/// Generate everything once and count what it came to.
-pub fn cover(seed: u64, wanted: usize) -> Coverage {
-    let (_, steps) = single_cases(seed, wanted);
-    let mut coverage = Coverage { steps, ..Coverage::default() };
-
-    let mut rng = Rng(seed ^ 0x5E65);
-    for _ in 0..3_000 {
-        let case = segment_case(&mut rng);
-        let mut output = vec![0xAA; case.output_length];
-        let answer = segment::turn_over(&case.bytes, &mut output);
-        *coverage.refusals.entry(("turning", number_of(&answer))).or_default() += 1;
-    }
-
-    let mut rng = Rng(seed ^ 0xBE4C);
-    for _ in 0..1_200 {
-        let case = if rng.chance(2, 3) { sequence_case(&mut rng) } else { loading_case(&mut rng) };
-        let mut now = case.start;
-        for call in case.calls {
-            let before = now.clone();
-            let answer = ask(&mut now, call);
-            if answer.is_err() && now != before {
-                coverage.faults.push(format!("refused and changed: {call:?}"));
-            }
-            *coverage.refusals.entry((entry_name(&call), number_of(&answer))).or_default() += 1;
-        }
-    }
-    for shared in [0, 1, 32_768, 32_769, u64::MAX] {
-        for words in [0, 1, 32_768, 1_048_576, 1_048_577, u64::MAX] {
-            let answer = bench::new_bench(shared, words);
-            *coverage.refusals.entry(("new bench", number_of(&answer))).or_default() += 1;
-        }
-    }
-
-    let mut rng = Rng(seed ^ 0xDA3A);
-    for kind in DAMAGES {
-        let large = kind == "N beyond 1,048,576" || kind == "S beyond 32,768";
-        let hoped = if large { 2 } else { wanted };
-        let mut found = 0;
-        for _ in 0..40 * wanted {
-            if found >= hoped {
-                break;
-            }
-            let mut case = sound_bench(&mut rng);
-            let Some(sound) = damage(&mut rng, &mut case, kind) else { continue };
-            found += 1;
-            *coverage.damages.entry((kind, sound)).or_default() += 1;
-            if bench::is_sound(&case.bench, &case.memory, &case.store) != sound {
-                coverage.faults.push(format!("{kind}: expected sound = {sound}"));
-            }
-        }
-        if found < hoped {
-            coverage.faults.push(format!("{kind}: only {found} of {hoped}"));
-        }
-    }
-
-    let mut rng = Rng(seed ^ 0x0121);
-    for _ in 0..1_500 {
-        let case = run_case(&mut rng);
-        let Ok(segment) = Segment::judge(&case.segment) else { continue };
-        let (mut region, mut session) = (case.region.clone(), case.session);
-        let k = case.k.min(2_000);
-        let mut done = 0;
-        while done < k && session.kind == Kind::Ready {
-            if let Some(first) = case.segment.get(session.counter as usize) {
-                *coverage.run_bytes.entry(*first).or_default() += 1;
-            }
-            done += machine::turn(&segment, &case.shared, &mut region, &mut session, 1);
-        }
-        coverage.run_steps += done;
-        let end = match session.kind {
-            Kind::Ready => GONE_ON,
-            Kind::Finished => FINISHED,
-            Kind::Faulted { number, .. } => number,
-        };
-        *coverage.run_ends.entry(end).or_default() += 1;
-    }
-    coverage
-}
-
-impl Coverage {
-    /// What is possible and was seen fewer than `wanted` times, what was seen
-    /// and is not possible, and what else went wrong.
-    pub fn complaints(&self, wanted: usize) -> Vec<String> {
-        let mut complaints = self.faults.clone();
-        let possible = possible_outcomes();
-        for outcome in &possible {
-            let seen = self.steps.get(outcome).copied().unwrap_or(0);
-            if seen < wanted {
-                complaints.push(format!("step {} seen {seen} times", show(*outcome)));
-            }
-        }
-        for outcome in self.steps.keys().filter(|outcome| !possible.contains(outcome)) {
-            complaints.push(format!("step {} seen, but not possible", show(*outcome)));
-        }
-        for (entry, numbers) in possible_refusals() {
-            for number in numbers {
-                if !self.refusals.contains_key(&(entry, *number)) {
-                    complaints.push(format!("{entry} never gave {number}"));
-                }
-            }
-            for ((_, number), _) in self.refusals.iter().filter(|((name, _), _)| *name == entry) {
-                if !numbers.contains(number) {
-                    complaints.push(format!("{entry} gave {number}, which is not possible"));
-                }
-            }
-        }
-        complaints
-    }
-
-    /// A table to read.
-    pub fn report(&self) -> String {
-        let mut text = String::from("first byte: what a step came to, and how often\n");
-        for first in std::iter::once(None).chain((0..=255).map(Some)) {
-            let name = match first {
-                None => "end".to_string(),
-                Some(byte) => {
-                    let name = machine::instruction(byte).map_or("-", |row| row.name);
-                    format!("{byte:3} {name}")
-                }
-            };
-            text += &format!("  {name:10}");
-            for ((_, came_to), count) in self.steps.iter().filter(|((byte, _), _)| *byte == first) {
-                text += &match *came_to {
-                    GONE_ON => format!("  ok:{count}"),
-                    FINISHED => format!("  finished:{count}"),
-                    fault => format!("  {fault}:{count}"),
-                };
-            }
-            text.push('\n');
-        }
-        text += "entry, refusal (0 none): how often\n";
-        for ((entry, number), count) in &self.refusals {
-            text += &format!("  {entry:10} {number:2}: {count}\n");
-        }
-        text += "damage, whether sound after it: how often\n";
-        for ((kind, sound), count) in &self.damages {
-            text += &format!("  {kind:30} {sound:5}: {count}\n");
-        }
-        text += &format!("runs: {} steps; ends (0 steps used up, 11 finished): ", self.run_steps);
-        text += &format!("{:?}\n", self.run_ends);
-        let unmet: Vec<u8> = (0..=255)
-            .filter(|byte| can_go_well(*byte) && !self.run_bytes.contains_key(byte))
-            .collect();
-        text += &format!("carried first bytes not met in runs: {unmet:?}\n");
-        text
-    }
-}
-
-fn show((first, came_to): Outcome) -> String {
-    let first = first.map_or("end".to_string(), |byte| byte.to_string());
-    match came_to {
-        GONE_ON => format!("({first}, gone on)"),
-        FINISHED => format!("({first}, finished)"),
-        fault => format!("({first}, fault {fault})"),
-    }
 }

@@ -6,7 +6,16 @@
 #![forbid(unsafe_code)]
 
 pub mod bench;
+pub mod cases;
+pub mod coverage;
+pub mod damage;
+pub mod explain;
 pub mod fast;
 pub mod generate;
+pub mod hand;
 pub mod machine;
+pub mod reader;
 pub mod segment;
+pub mod set;
+pub mod steps;
+pub mod world;

@@ -11,22 +11,22 @@ use crate::segment::{Reader, Segment};
 pub enum Kind {
     Ready,
     Finished,
-    Faulted { number: u32, place: u32 },
+    Faulted { number: Fault, place: u64 },
 }
 
 /// "A session's registers are SP, M, the counter and the current routine
-/// number."
+/// number."  Any numbers at all until soundness has judged them.
 #[derive(Clone, Copy, Debug, PartialEq, Eq)]
 pub struct Session {
-    pub sp: u32,
-    pub m: u32,
-    pub counter: u32,
-    pub routine: u32,
+    pub sp: u64,
+    pub m: u64,
+    pub counter: u64,
+    pub routine: u64,
     pub kind: Kind,
 }
 
 /// A fault number, 1 to 10.
-pub type Fault = u32;
+pub type Fault = u8;
 
 /// "1 an instruction byte outside 22..2W-1"
 pub const OUTSIDE: Fault = 1;
@@ -51,11 +51,11 @@ pub const BAD_SUBRANGE: Fault = 10;
 
 /// "Starting state: SP = L, record pointer M = 1, counter 2(e+1)", and
 /// opening "starts routine 1".
-pub fn starting_state(segment: &Segment, length: u32) -> Session {
+pub fn starting_state(segment: &Segment, length: u64) -> Session {
     Session {
         sp: length,
         m: 1,
-        counter: segment.routine(1).map_or(0, |routine| routine.start),
+        counter: segment.routine(1).map_or(0, |routine| u64::from(routine.start)),
         routine: 1,
         kind: Kind::Ready,
     }
@@ -228,13 +228,13 @@ pub struct Decoded {
     /// UB, SB, B or W, or the number of a short form.
     pub value: i64,
     /// "the byte after the instruction"
-    pub next: u32,
+    pub next: u64,
 }
 
 /// "The first byte is judged for 1 and 2 before its operands are fetched. All
 /// operands are fetched before a DB is judged."  "A DB byte above 127 faults
 /// with 2."
-pub fn decode(segment: &Segment, counter: u32) -> Result<Decoded, Fault> {
+pub fn decode(segment: &Segment, counter: u64) -> Result<Decoded, Fault> {
     let mut reader = Reader::at(segment, counter);
     let first = reader.byte().ok_or(OUTSIDE)?;
     let instruction = instruction(first).ok_or(NOT_CARRIED)?;
@@ -278,10 +278,10 @@ pub enum Transition {
 pub struct Change {
     /// May be negative until it is judged for 4.
     pub sp: i64,
-    pub m: u32,
-    pub counter: u32,
-    pub routine: u32,
-    pub writes: Vec<(u32, u16)>,
+    pub m: u64,
+    pub counter: u64,
+    pub routine: u64,
+    pub writes: Vec<(u64, u16)>,
 }
 
 /// What a step looks at; nothing here is changed.
@@ -291,6 +291,11 @@ pub struct View<'a> {
     pub shared: &'a [u16],
     pub region: &'a [u16],
     pub session: Session,
+}
+
+/// A register to reckon with.  A sound one is far below the limit.
+fn reckon(register: u64) -> i64 {
+    i64::try_from(register).unwrap_or(i64::MAX / 2).min(i64::MAX / 2)
 }
 
 impl View<'_> {
@@ -311,7 +316,7 @@ impl View<'_> {
 
     /// "Read from SP upward it is a list, top first": word 0 is TOS.
     fn stack(&self, index: u32) -> u16 {
-        self.private(i64::from(self.session.sp) + i64::from(index))
+        self.private(reckon(self.session.sp) + i64::from(index))
     }
 
     /// TOS and below as 16-bit two's complement integers.
@@ -334,9 +339,9 @@ impl View<'_> {
     }
 
     /// The same for a store: shared words "can only be read".
-    fn writable(&self, address: i64) -> Result<u32, Fault> {
+    fn writable(&self, address: i64) -> Result<u64, Fault> {
         if (1..self.length()).contains(&address) {
-            Ok(address as u32)
+            Ok(address as u64)
         } else {
             Err(BAD_ADDRESS)
         }
@@ -356,33 +361,33 @@ impl View<'_> {
     /// "Offset x of a record is word M+4+x.  [...] The only limit is that the
     /// word lies in 1..L-1, also where just its address is pushed; else fault
     /// 6."
-    fn record_word(&self, record: u32, offset: i64) -> Result<u32, Fault> {
-        self.writable(i64::from(record) + 4 + offset)
+    fn record_word(&self, record: u64, offset: i64) -> Result<u64, Fault> {
+        self.writable(reckon(record) + 4 + offset)
     }
 
     /// "Globals are the record at 1, so offset x is word 5+x."
-    fn global_word(&self, offset: i64) -> Result<u32, Fault> {
+    fn global_word(&self, offset: i64) -> Result<u64, Fault> {
         self.record_word(1, offset)
     }
 
     /// "Following 0 static links stays; for DB above 0 it takes one link and
     /// then DB-1 more; a link outside 1..L-5 faults with 9."  MSSTAT is the
     /// first word of a mark, at M.
-    fn follow(&self, record: u32, links: u32) -> Result<u32, Fault> {
+    fn follow(&self, record: u64, links: u32) -> Result<u64, Fault> {
         if links == 0 {
             return Ok(record);
         }
-        let link = self.private(i64::from(record));
+        let link = self.private(reckon(record));
         if !(1..=self.length() - 5).contains(&i64::from(link)) {
             return Err(BAD_LINK_OR_MARK);
         }
-        self.follow(u32::from(link), links - 1)
+        self.follow(u64::from(link), links - 1)
     }
 
     /// Registers as they are, with the counter on the byte after.
     fn on(&self, decoded: &Decoded) -> Change {
         Change {
-            sp: i64::from(self.session.sp) + i64::from(decoded.instruction.taken)
+            sp: reckon(self.session.sp) + i64::from(decoded.instruction.taken)
                 - i64::from(decoded.instruction.given),
             m: self.session.m,
             counter: decoded.next,
@@ -395,7 +400,7 @@ impl View<'_> {
     fn push(&self, decoded: &Decoded, given: &[u16]) -> Result<Transition, Fault> {
         let mut change = self.on(decoded);
         for (above, word) in given.iter().enumerate() {
-            if let Ok(address) = u32::try_from(change.sp + above as i64) {
+            if let Ok(address) = u64::try_from(change.sp + above as i64) {
                 change.writes.push((address, *word));
             }
         }
@@ -403,7 +408,7 @@ impl View<'_> {
     }
 
     /// Take the words taken and store one word.
-    fn store(&self, decoded: &Decoded, address: u32, word: u16) -> Result<Transition, Fault> {
+    fn store(&self, decoded: &Decoded, address: u64, word: u16) -> Result<Transition, Fault> {
         let mut change = self.on(decoded);
         change.writes.push((address, word));
         Ok(Transition::Go(change))
@@ -419,11 +424,11 @@ impl View<'_> {
     fn jump(&self, decoded: &Decoded, taken: bool) -> Result<Transition, Fault> {
         let mut change = self.on(decoded);
         if taken {
-            let target = i64::from(decoded.next) + decoded.value;
+            let target = reckon(decoded.next) + decoded.value;
             if !(22..2 * i64::from(self.segment.words)).contains(&target) {
                 return Err(BAD_TARGET);
             }
-            change.counter = target as u32;
+            change.counter = target as u64;
         }
         Ok(Transition::Go(change))
     }
@@ -434,18 +439,18 @@ impl View<'_> {
     /// words held. [...] The current routine becomes k, the counter 2(e+1) of
     /// k."  The order of the mark: "MSSTAT, MSDYN, MSIPC, MSENDV, MSPROC, at M
     /// to M+4".
-    fn call(&self, decoded: &Decoded, parent: u32) -> Result<Transition, Fault> {
-        let number = u32::try_from(decoded.value).map_err(|_| BAD_ROUTINE)?;
+    fn call(&self, decoded: &Decoded, parent: u64) -> Result<Transition, Fault> {
+        let number = u64::try_from(decoded.value).map_err(|_| BAD_ROUTINE)?;
         let routine = self.segment.routine(number).ok_or(BAD_ROUTINE)?;
-        let sp = i64::from(self.session.sp) - 5 - i64::from(routine.data_size);
+        let sp = reckon(self.session.sp) - 5 - i64::from(routine.data_size);
         let mark = [parent, self.session.m, decoded.next, 1, self.session.routine];
         let mut writes = Vec::new();
         // Below 1 it is far below 6+G, which the check for 4 finds.
-        let m = u32::try_from(sp).unwrap_or(0);
+        let m = u64::try_from(sp).unwrap_or(0);
         for (address, word) in (m..).zip(mark) {
             writes.push((address, word as u16));
         }
-        Ok(Transition::Go(Change { sp, m, counter: routine.start, routine: number, writes }))
+        Ok(Transition::Go(Change { sp, m, counter: u64::from(routine.start), routine: number, writes }))
     }
 
     /// "A return with B drops the mark and B words above it: SP becomes M+5+B.
@@ -454,7 +459,7 @@ impl View<'_> {
     /// 1..n, MSENDV 1, MSIPC in 22..2W, and the new SP in 6+G..L; else fault 9.
     /// They become M, routine number, counter and SP."
     fn give_back(&self, decoded: &Decoded) -> Result<Transition, Fault> {
-        let m = i64::from(self.session.m);
+        let m = reckon(self.session.m);
         if m == 1 {
             return Ok(Transition::Finish);
         }
@@ -471,9 +476,9 @@ impl View<'_> {
         }
         Ok(Transition::Go(Change {
             sp,
-            m: msdyn as u32,
-            counter: msipc as u32,
-            routine: msproc as u32,
+            m: msdyn as u64,
+            counter: msipc as u64,
+            routine: msproc as u64,
             writes: Vec::new(),
         }))
     }
@@ -502,7 +507,7 @@ impl View<'_> {
             // record and push it."
             Op::LoadLocal => {
                 let address = self.record_word(session.m, value)?;
-                self.push(decoded, &[self.private(i64::from(address))])
+                self.push(decoded, &[self.private(reckon(address))])
             }
             // 000: "Calculate address of the word with offset B in the local
             // activation record and push it."
@@ -520,7 +525,7 @@ impl View<'_> {
             // segment".
             Op::LoadGlobal => {
                 let address = self.global_word(value)?;
-                self.push(decoded, &[self.private(i64::from(address))])
+                self.push(decoded, &[self.private(reckon(address))])
             }
             Op::AddressGlobal => {
                 let address = self.global_word(value)?;
@@ -536,7 +541,7 @@ impl View<'_> {
             Op::LoadIntermediate => {
                 let record = self.follow(session.m, decoded.links)?;
                 let address = self.record_word(record, value)?;
-                self.push(decoded, &[self.private(i64::from(address))])
+                self.push(decoded, &[self.private(reckon(address))])
             }
             // 000: "Push the address of offset B in that record."
             Op::AddressIntermediate => {
@@ -645,7 +650,7 @@ impl View<'_> {
 pub fn transition(view: &View) -> Result<Transition, Fault> {
     let decoded = decode(view.segment, view.session.counter)?;
     // "The stack occupies SP..L-1".
-    let on_stack = view.length() - i64::from(view.session.sp);
+    let on_stack = view.length() - reckon(view.session.sp);
     if on_stack < i64::from(decoded.instruction.taken) {
         return Err(TOO_FEW_WORDS);
     }
@@ -671,7 +676,7 @@ pub fn step(segment: &Segment, shared: &[u16], region: &mut [u16], session: &mut
                     *place = word;
                 }
             }
-            session.sp = change.sp as u32;
+            session.sp = change.sp as u64;
             session.m = change.m;
             session.counter = change.counter;
             session.routine = change.routine;

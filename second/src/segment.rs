@@ -118,8 +118,8 @@ impl<'a> Segment<'a> {
     }
 
     /// Routine k, for k in 1..n.
-    pub fn routine(&self, number: u32) -> Option<Routine> {
-        let index = (number as usize).checked_sub(1)?;
+    pub fn routine(&self, number: u64) -> Option<Routine> {
+        let index = usize::try_from(number).ok()?.checked_sub(1)?;
         self.routines.get(index).copied()
     }
 
@@ -241,20 +241,20 @@ pub fn turn_over(bytes: &[u8], output: &mut [u8]) -> Result<(), Refusal> {
 #[derive(Clone, Copy, Debug, PartialEq, Eq)]
 pub struct Reader<'a> {
     pub bytes: &'a [u8],
-    pub place: u32,
+    pub place: u64,
 }
 
 impl<'a> Reader<'a> {
-    pub fn at(segment: &Segment<'a>, place: u32) -> Reader<'a> {
+    pub fn at(segment: &Segment<'a>, place: u64) -> Reader<'a> {
         Reader { bytes: segment.bytes, place }
     }
 
     /// One byte of 22..2W-1, and on to the next.
     pub fn byte(&mut self) -> Option<u8> {
-        if self.place < Segment::FIRST_CODE_BYTE {
+        if self.place < u64::from(Segment::FIRST_CODE_BYTE) {
             return None;
         }
-        let byte = *self.bytes.get(self.place as usize)?;
+        let byte = *self.bytes.get(usize::try_from(self.place).ok()?)?;
         self.place += 1;
         Some(byte)
     }

@@ -1,13 +1,19 @@
 //! Generated cases: the fast machine against the plain one, what holds of
-//! every answer, and the coverage.
+//! every answer, and the cases as they are written.
 
+use second::bench;
+use second::cases::Writer;
+use second::fast;
 use second::generate::{
-    self, ask, call, cover, loading_case, run_case, segment_case, sequence_case, single_cases,
-    BenchCase, Call, Rng, RunCase,
+    call, loading_case, possible_outcomes, run_case, segment_case, sequence_case, sound_bench, Rng,
+    RunCase,
 };
 use second::machine::{self, Kind, Session};
+use second::reader::Reader;
 use second::segment::{turn_over, Segment};
-use second::{bench, fast};
+use second::set::{Set, WANTED};
+use second::steps;
+use second::world::{ask, Call, World};
 
 fn both(case: &RunCase) {
     let Ok(segment) = Segment::judge(&case.segment) else { panic!("a run of no segment") };
@@ -28,9 +34,20 @@ fn both(case: &RunCase) {
 
 #[test]
 fn fast_agrees_on_single_steps() {
-    let (cases, _) = single_cases(7, 20);
-    assert!(cases.len() > 10_000);
-    cases.iter().for_each(both);
+    let mut rng = Rng(7);
+    let possible = possible_outcomes();
+    for _ in 0..400 {
+        let place = steps::base(&mut rng);
+        for _ in 0..40 {
+            let (first, _) = rng.pick(&possible, (None, 1));
+            let Some((mut world, _)) = steps::draw(&mut rng, &place, &place.world, first) else { continue };
+            let mut quick = world.clone();
+            let turn = Call::Turn { session: place.session as u64, k: 1 };
+            assert_eq!(ask(&mut world, turn), Ok(1));
+            assert_eq!(ask_fast(&mut quick, turn), Ok(1));
+            assert_eq!(world, quick);
+        }
+    }
 }
 
 #[test]
@@ -63,7 +80,9 @@ fn neither_machine_panics_on_an_unsound_session() {
     let mut rng = Rng(10);
     for _ in 0..3_000 {
         let mut case = run_case(&mut rng);
-        let wild = |rng: &mut Rng| rng.pick(&[0, 1, 5, 40, 65_535, 32_768, u32::MAX], 7);
+        let wild = |rng: &mut Rng| {
+            rng.pick(&[0, 1, 5, 40, 65_535, 32_768, 1 << 32, i64::MAX as u64, u64::MAX], 7)
+        };
         case.session = Session {
             sp: wild(&mut rng),
             m: wild(&mut rng),
@@ -112,13 +131,13 @@ fn a_turned_segment_says_the_same_and_turns_back() {
 }
 
 /// An entry by the fast machine.
-fn ask_fast(case: &mut BenchCase, call: Call) -> Result<u64, second::segment::Refusal> {
+fn ask_fast(world: &mut World, call: Call) -> Result<u64, second::segment::Refusal> {
     match call {
         Call::Turn { session, k } => {
-            let BenchCase { bench, memory, store } = case;
+            let World { bench, memory, store } = world;
             bench::turn_by(fast::turn, bench, memory, store, session, k)
         }
-        other => ask(case, other),
+        other => ask(world, other),
     }
 }
 
@@ -131,7 +150,7 @@ fn sequences_keep_soundness_and_refusals_change_nothing() {
         let mut quick = case.start;
         for call in case.calls {
             let before = now.clone();
-            let was_sound = bench::is_sound(&now.bench, &now.memory, &now.store);
+            let was_sound = now.is_sound();
             let answer = ask(&mut now, call);
             assert_eq!(answer, ask_fast(&mut quick, call));
             assert_eq!(now, quick);
@@ -139,7 +158,7 @@ fn sequences_keep_soundness_and_refusals_change_nothing() {
                 assert_eq!(now, before);
             } else if !matches!(call, Call::New { .. }) {
                 assert!(was_sound);
-                assert!(bench::is_sound(&now.bench, &now.memory, &now.store), "{call:?}");
+                assert!(now.is_sound(), "{call:?}");
             }
         }
     }
@@ -149,7 +168,7 @@ fn sequences_keep_soundness_and_refusals_change_nothing() {
 fn a_turn_touches_its_own_region_only() {
     let mut rng = Rng(13);
     for _ in 0..300 {
-        let mut case = generate::sound_bench(&mut rng);
+        let mut case = sound_bench(&mut rng);
         let next = call(&mut rng, &case);
         let Call::Turn { session, .. } = next else { continue };
         let before = case.clone();
@@ -171,10 +190,60 @@ fn a_turn_touches_its_own_region_only() {
     }
 }
 
-#[test]
-fn every_possible_outcome_is_covered() {
-    for seed in [1, 2] {
-        let complaints = cover(seed, 20).complaints(20);
-        assert!(complaints.is_empty(), "{complaints:#?}");
+/// Lines read back give the answers written beside them.
+fn answered(questions: &[u8], answers: &[u8]) {
+    let questions = std::str::from_utf8(questions).unwrap();
+    let mut reader = Reader::default();
+    let mut got = String::new();
+    for line in questions.lines() {
+        assert!(line.len() < 4_096);
+        if let Some(answer) = reader.line(line) {
+            got += &answer;
+            got.push('\n');
+        }
     }
+    assert!(got.as_bytes() == answers);
+}
+
+#[test]
+fn the_committed_set_is_complete_and_its_lines_say_what_was_meant() {
+    for seed in [1, 2] {
+        let (mut questions, mut answers) = (Vec::new(), Vec::new());
+        let mut writer = Writer::new(&mut questions, &mut answers, None);
+        Set::new(&mut writer, seed).committed().unwrap();
+        let coverage = writer.finish().unwrap();
+        assert!(coverage.complaints.is_empty(), "{:#?}", coverage.complaints);
+        assert!(coverage.missing_steps(WANTED).is_empty(), "{:#?}", coverage.missing_steps(WANTED));
+        assert!(coverage.missing_refusals().is_empty(), "{:#?}", coverage.missing_refusals());
+        answered(&questions, &answers);
+    }
+}
+
+#[test]
+fn fresh_cases_are_as_many_as_asked_for_and_read_back() {
+    let (mut questions, mut answers) = (Vec::new(), Vec::new());
+    let mut writer = Writer::new(&mut questions, &mut answers, None);
+    Set::new(&mut writer, 14).fresh(3_000).unwrap();
+    let coverage = writer.finish().unwrap();
+    assert_eq!(coverage.cases, 3_000);
+    assert!(coverage.complaints.is_empty());
+    answered(&questions, &answers);
+}
+
+#[test]
+fn one_case_alone_has_the_same_answers() {
+    let mut all = Vec::new();
+    let mut writer = Writer::new(std::io::sink(), &mut all, None);
+    Set::new(&mut writer, 15).fresh(200).unwrap();
+    drop(writer);
+    let mut joined = Vec::new();
+    for number in 1..=200 {
+        let (mut questions, mut answers) = (Vec::new(), Vec::new());
+        let mut writer = Writer::new(&mut questions, &mut answers, Some(number));
+        Set::new(&mut writer, 15).fresh(number).unwrap();
+        drop(writer);
+        answered(&questions, &answers);
+        joined.extend(answers);
+    }
+    assert!(joined == all);
 }

@@ -1,0 +1,16 @@
+-- `places::in_code` is its test. Assumes nothing.
+use borrow.Author.Tests.{lt-leb, le-leb}
+use Rattle.basis.specs.Bools.{inside}
+use Rattle.listing.proofs.places.in_code.Statement.{statement}
+use Rattle.listing.proofs.places.in_code.Tie as tie
+
+returns : tie.Need-returns
+unfolding inside
+returns c = simp (lt-leb _ _ (c .if1 .taken))
+
+returns-2 : tie.Need-returns-2
+unfolding inside
+returns-2 c = simp (le-leb _ _ (c .if1 .left))
+
+pub in-code-spec : {M : Type 1} → statement M
+in-code-spec = tie.close (tie.spec returns returns-2)

@@ -1,0 +1,62 @@
+// The first two columns of a line: the byte place, and the instruction's bytes in hexadecimal.
+// Above it: the lines of a listing. Below it: how the console speaks.
+use text::front;
+
+// The longest instruction has four bytes.
+const WIDTH: usize = 13;
+
+pub fn place(at: usize) {
+    say::text(b"  byte ");
+    say::padded(at as u64, 5);
+    say::text(b": ");
+}
+
+// The bytes from at up to next.
+pub fn bytes(seg: &[u8], at: usize, next: usize) {
+    let part = between(seg, at, next);
+    each(part);
+    if part.len() < 5 {
+        gap(3 * part.len(), WIDTH);
+    }
+}
+
+// The bytes from a up to b, or none where there are not so many.
+fn between(seg: &[u8], a: usize, b: usize) -> &[u8] {
+    if b <= seg.len() {
+        if a <= b {
+            return &seg[a..b];
+        }
+    }
+    front(seg, 0)
+}
+
+fn each(part: &[u8]) {
+    let mut i = 0;
+    while i < part.len() {
+        byte(part[i]);
+        i += 1;
+    }
+}
+
+// Blanks after so many characters, up to a column's width.
+pub fn gap(used: usize, width: usize) {
+    if used < width {
+        say::blanks(width - used);
+    }
+}
+
+// A byte in two digits, with a blank after it.
+fn byte(b: u8) {
+    let digits = b"0123456789ABCDEF";
+    one(digits, b / 16);
+    one(digits, b % 16);
+    say::blanks(1);
+}
+
+// Character d of a text.
+fn one(all: &[u8], d: u8) {
+    let k = d as usize;
+    if k < all.len() {
+        say::text(&all[k..k + 1]);
+    }
+}

@@ -1,0 +1,65 @@
+// One line of a listing: the instruction at a byte.
+// Above it: whole listings, and what is told of a fault. Below it: `instruction` and the columns.
+use crate::columns;
+use crate::places;
+use crate::table;
+use instruction::Instruction;
+ghost use Prim.Native.Nat.{_<_};
+ghost use lib.ListN.{length};
+
+// The mnemonic's column.
+const WIDTH: usize = 10;
+
+// Prints the line and answers the byte after the instruction, which is above `at` where that is a byte of the segment.
+pub fn line(seg: &[u8], at: usize) -> usize
+    ensures { λ r. ⌜ (at < length (now (seg .entry)) → at < r) ⌝ }
+{
+    let next = row(seg, at);
+    say::end();
+    places::forward(seg.len(), at, next)
+}
+
+// The line without its end, and the byte after the instruction as it was read.
+pub fn row(seg: &[u8], at: usize) -> usize {
+    columns::place(at);
+    if seg.len() <= at {
+        say::text(b"past the end of the segment");
+        return at;
+    }
+    let i = instruction::read(seg, at);
+    let next = i.next;
+    columns::bytes(seg, at, next);
+    named(seg, i);
+    next
+}
+
+fn named(seg: &[u8], i: Instruction) {
+    let n = table::name(i.first);
+    columns::gap(n, WIDTH);
+    if !i.carried {
+        other(n);
+    } else if !i.whole {
+        say::text(b"cut off by the end of the segment");
+    } else if over(i.first, i.x) {
+        say::text(b"not carried: more than 127 links");
+    } else {
+        table::meaning(i.first, seg, i.x, i.y, i.next);
+    }
+}
+
+// A first byte without a mnemonic, which shows as one character, is no instruction.
+fn other(name: usize) {
+    if name < 2 {
+        say::text(b"no instruction");
+    } else {
+        say::text(b"not carried");
+    }
+}
+
+// Whether the first operand is a DB above 127: those of LDA, LOD, CPI and STR.
+fn over(first: u8, x: u16) -> bool {
+    match first {
+        136 | 137 | 146 | 166 => x > 127,
+        _ => false,
+    }
+}

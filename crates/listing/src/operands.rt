@@ -1,0 +1,86 @@
+// The operands in a phrase, each as a person reads it.
+// Above it: what an instruction does. Below it: the header numbers of `segment`, and how the console speaks.
+use crate::places;
+
+// What is asked of an entry of the table: its mnemonic or its phrase; the operands in order, and the byte after the instruction.
+pub struct Operands {
+    pub named: bool,
+    pub x: u16,
+    pub y: u16,
+    pub next: usize,
+}
+
+// A word as a number in two's complement, and as it stands where that differs.
+pub fn signed(w: u16) {
+    say::signed(w);
+    if w > 32767 {
+        say::text(b", unsigned ");
+        say::number(w as u64);
+    }
+}
+
+// A number of links or words; one of them loses its s.
+fn counted(n: u16, things: &[u8]) {
+    say::number(n as u64);
+    if n == 1 {
+        say::text(text::front(things, 5));
+    } else {
+        say::text(things);
+    }
+}
+
+pub fn links(n: u16) {
+    counted(n, b" links");
+    say::text(b" out");
+}
+
+pub fn words(n: u16) {
+    counted(n, b" words");
+}
+
+// Where a jump leads, and whether that is out of the code. No segment reaches past byte 65534, so it is always told.
+pub fn jump(len: usize, next: usize, distance: u16) {
+    if next <= 65536 {
+        let t = places::landing(next, distance);
+        say::number(t as u64);
+        outside(len, t);
+    }
+}
+
+// A target below byte 0 counts as 0.
+fn outside(len: usize, t: usize) {
+    if t == 0 {
+        say::text(b" or below");
+    }
+    if !places::in_code(len, t) {
+        say::text(b" (outside the code)");
+    }
+}
+
+// A routine's number, and whether the segment has it.
+pub fn routine(seg: &[u8], k: u16) {
+    say::number(k as u64);
+    let h = segment::head(seg);
+    if !places::one_to(h.count, k) {
+        say::text(b" (not there)");
+    }
+}
+
+// The word of the segment at which a word of the pool stands, which is what LCO pushes.
+pub fn pooled(seg: &[u8], x: u16) {
+    let h = segment::head(seg);
+    if h.pool == 0 {
+        say::text(b"(no pool)");
+    } else {
+        stands(h.words, h.pool as usize + x as usize);
+    }
+}
+
+fn stands(words: usize, w: usize) {
+    say::text(b"(word ");
+    say::number(w as u64);
+    if words <= w {
+        say::text(b", outside the segment");
+    }
+    say::text(b")");
+}

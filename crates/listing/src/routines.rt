@@ -1,0 +1,76 @@
+// The listing of a segment: each routine's heading and the instructions from its first byte on.
+// Above it: the console's listings. Below it: the lines, and where a routine's code ends.
+use crate::ends;
+use crate::lines;
+use crate::places;
+use segment::Routine;
+ghost use Prim.Native.Nat.{_<_};
+
+// For a segment that was accepted. Of other bytes it lists what their header says, and ends too.
+pub fn listing(seg: &[u8]) {
+    let h = segment::head(seg);
+    let n = h.count;
+    let mut k: u16 = 0;
+    while k < n {
+        if k > 0 {
+            say::end();
+        }
+        k += 1;
+        routine(seg, k);
+    }
+}
+
+fn routine(seg: &[u8], k: u16) {
+    let r = segment::routine_of(seg, k);
+    heading(k, r);
+    let start = r.start as usize;
+    let end = ends::code_end(seg, start);
+    code(seg, start, end, r.exitic as usize);
+}
+
+fn heading(k: u16, r: Routine) {
+    say::text(b"routine ");
+    say::number(k as u64);
+    say::text(b": first byte ");
+    say::number(r.start as u64);
+    say::text(b", DATASIZE ");
+    say::number(r.datasize as u64);
+    say::text(b", EXITIC ");
+    say::number(r.exitic as u64);
+    say::end();
+}
+
+fn code(seg: &[u8], start: usize, end: usize, exitic: usize) {
+    let mut at = start;
+    let mut met = false;
+    while at < end {
+        if at == exitic {
+            met = true;
+        }
+        at = marked(seg, at, end, exitic);
+    }
+    if !met {
+        unmet(start < end);
+    }
+}
+
+// Why no line has the mark of EXITIC.
+fn unmet(code: bool) {
+    if code {
+        say::text(b"  no line of this routine begins at its EXITIC\n");
+    } else {
+        say::text(b"  no code stands there\n");
+    }
+}
+
+// A line, with a mark where it stands at EXITIC.
+fn marked(seg: &[u8], at: usize, end: usize, exitic: usize) -> usize
+    ensures { λ r. ⌜ (at < end → at < r) ⌝ }
+{
+    let next = lines::row(seg, at);
+    if at == exitic {
+        say::text(b"  <- EXITIC");
+    }
+    say::end();
+    places::forward(end, at, next)
+}

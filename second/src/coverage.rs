@@ -1,0 +1,180 @@
+//! What the cases written came to: steps by first byte and outcome, refusals
+//! by entry, damages; and what is missing of what document 01 makes possible.
+
+use crate::generate::{can_go_well, possible_outcomes, possible_refusals, Outcome, FINISHED, GONE_ON};
+use crate::machine::{self, Kind};
+use crate::world::{Answer, Call, Request, World};
+use std::collections::BTreeMap;
+
+/// Counts kept by the writer of cases.
+#[derive(Clone, Debug, Default)]
+pub struct Coverage {
+    pub cases: u64,
+    pub requests: u64,
+    pub steps_done: u64,
+    /// Turns of one step, by first byte and what the step came to.
+    pub steps: BTreeMap<Outcome, usize>,
+    /// Requests by name and refusal (0 none).
+    pub refusals: BTreeMap<(&'static str, u32), usize>,
+    /// Damages by name and whether the bench is sound after it.
+    pub damages: BTreeMap<(&'static str, bool), usize>,
+    /// Turns of more than one step, by how they ended.
+    pub run_ends: BTreeMap<u32, usize>,
+    /// What went wrong in making the cases.
+    pub complaints: Vec<String>,
+}
+
+/// The first byte that a turn of one step will meet, if it is one.
+pub type AboutTo = Option<Option<u8>>;
+
+fn entry_name(request: Request) -> &'static str {
+    match request {
+        Request::Judge => "judging",
+        Request::TurnOver(_) => "turning",
+        Request::Sound => "soundness",
+        Request::Entry(Call::New { .. }) => "new bench",
+        Request::Entry(Call::Load { .. }) => "loading",
+        Request::Entry(Call::Open { .. }) => "opening",
+        Request::Entry(Call::Turn { .. }) => "turn",
+        Request::Entry(Call::Close { .. }) => "closing",
+    }
+}
+
+/// What a turn came to: a fault number, `GONE_ON` or `FINISHED`.
+pub fn came_to(kind: Kind) -> u32 {
+    match kind {
+        Kind::Ready => GONE_ON,
+        Kind::Finished => FINISHED,
+        Kind::Faulted { number, .. } => u32::from(number),
+    }
+}
+
+impl Coverage {
+    /// To be asked before a request is put.
+    pub fn before(&self, request: Request, world: &World) -> AboutTo {
+        let Request::Entry(Call::Turn { session, k: 1 }) = request else { return None };
+        let record = world.bench.records.get(usize::try_from(session).ok()?)?;
+        let bytes = world.segment_bytes(record.slot)?;
+        let counter = usize::try_from(record.session.counter).ok()?;
+        Some(bytes.get(counter).copied())
+    }
+
+    /// To be told after a request was put.
+    pub fn after(&mut self, about_to: AboutTo, request: Request, answer: &Answer, world: &World) {
+        self.requests += 1;
+        let refusal = match answer {
+            Answer::Refused(refusal) | Answer::TurnedOver(_, Some(refusal)) => refusal.number,
+            _ => 0,
+        };
+        *self.refusals.entry((entry_name(request), refusal)).or_default() += 1;
+        let Request::Entry(Call::Turn { session, k }) = request else { return };
+        let Answer::Done(done @ 1..) = *answer else { return };
+        self.steps_done += done;
+        let record = usize::try_from(session).ok().and_then(|at| world.bench.records.get(at));
+        let end = record.map_or(GONE_ON, |record| came_to(record.session.kind));
+        match about_to {
+            Some(first) if k == 1 => *self.steps.entry((first, end)).or_default() += 1,
+            _ => *self.run_ends.entry(end).or_default() += 1,
+        }
+    }
+
+    pub fn seen(&self, outcome: Outcome) -> usize {
+        self.steps.get(&outcome).copied().unwrap_or(0)
+    }
+
+    /// What is possible and was seen fewer than `wanted` times, and what was
+    /// seen and is not possible.
+    pub fn missing_steps(&self, wanted: usize) -> Vec<String> {
+        let possible = possible_outcomes();
+        let few = possible.iter().filter(|outcome| self.seen(**outcome) < wanted);
+        let mut missing: Vec<String> =
+            few.map(|outcome| format!("step {} seen {} times", show(*outcome), self.seen(*outcome))).collect();
+        for outcome in self.steps.keys().filter(|outcome| !possible.contains(outcome)) {
+            missing.push(format!("step {} seen, but not possible", show(*outcome)));
+        }
+        missing
+    }
+
+    /// Refusals possible and not seen, or seen and not possible.
+    pub fn missing_refusals(&self) -> Vec<String> {
+        let mut missing = Vec::new();
+        for (entry, numbers) in possible_refusals() {
+            for number in numbers.iter().filter(|number| !self.refusals.contains_key(&(entry, **number))) {
+                missing.push(format!("{entry} never gave {number}"));
+            }
+            for (_, number) in self.refusals.keys().filter(|(name, _)| *name == entry) {
+                if !numbers.contains(number) {
+                    missing.push(format!("{entry} gave {number}, which is not possible"));
+                }
+            }
+        }
+        missing
+    }
+
+    /// The lines for people: how much there is, and whether the steps are all
+    /// there.
+    pub fn summary(&self, wanted: usize) -> String {
+        let possible = possible_outcomes();
+        let enough = possible.iter().filter(|outcome| self.seen(**outcome) >= wanted).count();
+        let mut text = format!(
+            "{} cases, {} requests, {} steps\n",
+            self.cases, self.requests, self.steps_done
+        );
+        text += &format!(
+            "{enough} of {} possible step outcomes, each at least {wanted} times\n",
+            possible.len()
+        );
+        let missing = self.missing_steps(wanted);
+        for line in missing.iter().take(20) {
+            text += &format!("  missing: {line}\n");
+        }
+        if missing.len() > 20 {
+            text += &format!("  and {} more\n", missing.len() - 20);
+        }
+        text
+    }
+
+    /// The whole table.
+    pub fn report(&self) -> String {
+        let mut text = String::from("first byte: what a step came to, and how often\n");
+        for first in std::iter::once(None).chain((0..=255).map(Some)) {
+            let name = match first {
+                None => "end".to_string(),
+                Some(byte) => {
+                    let name = machine::instruction(byte).map_or("-", |row| row.name);
+                    format!("{byte:3} {name}")
+                }
+            };
+            text += &format!("  {name:10}");
+            for ((_, end), count) in self.steps.iter().filter(|((byte, _), _)| *byte == first) {
+                text += &match *end {
+                    GONE_ON => format!("  ok:{count}"),
+                    FINISHED => format!("  finished:{count}"),
+                    fault => format!("  {fault}:{count}"),
+                };
+            }
+            text.push('\n');
+        }
+        text += "request, refusal (0 none): how often\n";
+        for ((entry, number), count) in &self.refusals {
+            text += &format!("  {entry:10} {number:2}: {count}\n");
+        }
+        text += "damage, whether sound after it: how often\n";
+        for ((kind, sound), count) in &self.damages {
+            text += &format!("  {kind:30} {sound:5}: {count}\n");
+        }
+        text + &format!("longer turns, by end (0 steps used up, 11 finished): {:?}\n", self.run_ends)
+    }
+}
+
+fn show((first, end): Outcome) -> String {
+    let first = first.map_or("end".to_string(), |byte| byte.to_string());
+    match end {
+        GONE_ON if first.parse().is_ok_and(|byte| !can_go_well(byte)) => {
+            format!("({first}, gone on, though not carried)")
+        }
+        GONE_ON => format!("({first}, gone on)"),
+        FINISHED => format!("({first}, finished)"),
+        fault => format!("({first}, fault {fault})"),
+    }
+}

@@ -1,0 +1,261 @@
+//! Benches damaged in one field.  Each damage has values just inside or just
+//! outside the limit of one part of 01's sentence "A bench is sound when ...",
+//! and says by itself whether the bench is sound after it.
+
+use crate::bench::{Record, Slot};
+use crate::generate::{open_sessions, put_word, Rng};
+use crate::machine::Kind;
+use crate::segment::{Segment, Sex};
+use crate::world::World;
+
+/// What is lost where a number is cut to 32 bits.
+const WIDE: u64 = 1 << 32;
+
+/// The damages, in the order of 01's sentence.
+pub const DAMAGES: [&str; 35] = [
+    "S just at a limit", "S beyond 32,768", "S beyond N", "N beyond 1,048,576",
+    "N not the memory's words", "memory one word short", "memory one word long",
+    "slot range to the store's end", "slot range beyond the store", "slot start far beyond",
+    "slot length odd", "segment in a slot spoilt", "region below S", "region at N",
+    "region beyond N", "region far beyond", "regions touch", "regions overlap",
+    "slot named is 16 or more", "slot named not loaded", "L below 16", "L at 32,768",
+    "L above 32,768", "L below 6+G", "SP at a limit", "SP outside", "M at a limit", "M outside",
+    "counter at a limit", "counter outside", "routine at a limit", "routine outside",
+    "fault and place at a limit", "fault outside 1..10", "place outside 22..2W",
+];
+
+/// Those that need a memory of a million words, so that they are used rarely.
+pub const LARGE: &str = "N beyond 1,048,576";
+
+/// The session that is damaged, and the numbers its limits come from.
+struct Target {
+    number: usize,
+    record: Record,
+    slot: Slot,
+    /// W, n, 6+G, and the entry of routine 1
+    words: u64,
+    count: u64,
+    floor: u64,
+    entry: i64,
+    sex: Sex,
+    others: Vec<Record>,
+}
+
+/// Damage one field of a sound bench.  Answers whether the bench is sound
+/// after it, as 01's sentence has it, or `None` if the bench offers no such
+/// field (no session open, no second region, ...).
+pub fn damage(rng: &mut Rng, world: &mut World, kind: &str) -> Option<bool> {
+    let target = target(rng, world)?;
+    damage_sizes(rng, world, kind, &target)
+        .or_else(|| damage_slots(rng, world, kind, &target))
+        .or_else(|| damage_region(rng, world, kind, &target))
+        .or_else(|| damage_length(rng, world, kind, &target))
+        .or_else(|| damage_session(rng, world, kind, &target))
+}
+
+fn target(rng: &mut Rng, world: &World) -> Option<Target> {
+    let sessions = open_sessions(&world.bench);
+    let number = *sessions.get(rng.up_to((sessions.len() as u64).max(1) - 1) as usize)? as usize;
+    let record = *world.bench.records.get(number)?;
+    let slot = *world.bench.slots.get(record.slot as usize)?;
+    let segment = Segment::judge(world.segment_bytes(record.slot)?).ok()?;
+    let open = world.bench.records.iter().enumerate();
+    let others = open.filter(|(at, other)| other.open && *at != number).map(|(_, other)| *other);
+    Some(Target {
+        number,
+        record,
+        slot,
+        words: u64::from(segment.words),
+        count: u64::from(segment.count()),
+        floor: 6 + u64::from(segment.global_size()),
+        entry: i64::from(segment.routine(1)?.entry),
+        sex: segment.sex,
+        others: others.collect(),
+    })
+}
+
+/// S, N and the memory.
+fn damage_sizes(rng: &mut Rng, world: &mut World, kind: &str, target: &Target) -> Option<bool> {
+    let bench = &mut world.bench;
+    let all = bench.words;
+    let bases = target.others.iter().map(|other| other.base);
+    let lowest = bases.chain([target.record.base]).min()?;
+    match kind {
+        "S just at a limit" => {
+            // S may rise to the lowest region
+            bench.shared = lowest;
+            return Some(lowest <= 32_768);
+        }
+        "S beyond 32,768" => {
+            // a memory large enough, all regions above the new S
+            let by = 32_769 - lowest.min(32_768);
+            for other in bench.records.iter_mut().filter(|other| other.open) {
+                other.base += by;
+            }
+            bench.shared = 32_769;
+            bench.words += by;
+            world.memory.resize(bench.words as usize, 3);
+        }
+        "S beyond N" => {
+            bench.shared = rng.pick(&[all + 1, WIDE + bench.shared, u64::MAX], all + 1);
+        }
+        "N beyond 1,048,576" => {
+            bench.words = 1_048_577;
+            world.memory.resize(1_048_577, 0);
+        }
+        "N not the memory's words" => {
+            bench.words = rng.pick(&[all + 1, all - 1, WIDE + all, u64::MAX, 0], 0);
+        }
+        "memory one word short" => drop(world.memory.pop()),
+        "memory one word long" => world.memory.push(9),
+        _ => return None,
+    }
+    Some(false)
+}
+
+/// The range of the slot that the session names, and the segment in it.
+fn damage_slots(rng: &mut Rng, world: &mut World, kind: &str, target: &Target) -> Option<bool> {
+    let copy = world.segment_bytes(target.record.slot)?.to_vec();
+    let end = world.store.len() as u64;
+    let slot = world.bench.slots.get_mut(target.record.slot as usize)?;
+    match kind {
+        "slot range to the store's end" => {
+            slot.start = end;
+            world.store.extend(copy);
+            return Some(true);
+        }
+        "slot range beyond the store" => {
+            slot.start = end;
+            world.store.extend(copy);
+            world.store.pop();
+        }
+        "slot start far beyond" => {
+            slot.start =
+                rng.pick(&[u64::MAX, u64::MAX - slot.length, 0u64.wrapping_sub(slot.length), end + 2, WIDE], WIDE);
+        }
+        "slot length odd" => slot.length -= 1,
+        "slot named not loaded" => slot.loaded = false,
+        "segment in a slot spoilt" => {
+            let range = target.slot.start as usize..(target.slot.start + target.slot.length) as usize;
+            let bytes = world.store.get_mut(range)?;
+            match rng.up_to(3) {
+                0 => *bytes.get_mut(12)? = 2,
+                1 => put_word(bytes, target.sex, 1, 1),
+                2 => put_word(bytes, target.sex, target.entry, 32_768),
+                _ => put_word(bytes, target.sex, target.entry - 1, 21),
+            }
+        }
+        _ => return None,
+    }
+    Some(false)
+}
+
+/// Where the session's region lies.
+fn damage_region(rng: &mut Rng, world: &mut World, kind: &str, target: &Target) -> Option<bool> {
+    let (shared, all, length) = (world.bench.shared, world.bench.words, target.record.length);
+    let others = &target.others;
+    let field = world.bench.records.get_mut(target.number)?;
+    let apart = |begin: u64, end: u64| {
+        end <= all && others.iter().all(|o| end <= o.base || o.base + o.length <= begin)
+    };
+    match kind {
+        "region below S" => field.base = shared.checked_sub(1)?,
+        "region at N" => {
+            field.base = all - length;
+            return Some(apart(all - length, all));
+        }
+        "region beyond N" => field.base = all - length + 1,
+        "region far beyond" => {
+            let wraps_to_0 = 0u64.wrapping_sub(length);
+            field.base = rng.pick(
+                &[u64::MAX, wraps_to_0, wraps_to_0 - 1, wraps_to_0.wrapping_add(shared), WIDE + field.base],
+                u64::MAX,
+            );
+        }
+        "regions touch" => {
+            let other = others.first()?;
+            field.base = other.base + other.length;
+            return Some(apart(field.base, field.base + length));
+        }
+        "regions overlap" => {
+            let other = others.first()?;
+            field.base = other.base + other.length - 1;
+        }
+        _ => return None,
+    }
+    Some(false)
+}
+
+/// L against its limits.
+fn damage_length(rng: &mut Rng, world: &mut World, kind: &str, target: &Target) -> Option<bool> {
+    let all = world.bench.words;
+    let field = world.bench.records.get_mut(target.number)?;
+    match kind {
+        "L below 16" => field.length = rng.pick(&[15, 15, 0, 1], 15),
+        "L at 32,768" | "L above 32,768" => {
+            // a region of its own above all others
+            let above = kind == "L above 32,768";
+            field.base = all;
+            field.length = 32_768 + u64::from(above);
+            world.bench.words = all + field.length;
+            world.memory.resize(world.bench.words as usize, 0);
+            if above && rng.chance(1, 2) {
+                field.length = rng.pick(&[WIDE + 32_768, u64::MAX, 0u64.wrapping_sub(all)], u64::MAX);
+            }
+            return Some(!above);
+        }
+        "L below 6+G" if target.floor <= 16 => {
+            // make G large instead: 6+G is L+1
+            let range = target.slot.start as usize..(target.slot.start + target.slot.length) as usize;
+            let bytes = world.store.get_mut(range)?;
+            put_word(bytes, target.sex, target.entry, target.record.length as i64 - 5);
+            return Segment::judge(bytes).is_ok().then_some(false);
+        }
+        "L below 6+G" => field.length = target.floor - 1,
+        _ => return None,
+    }
+    field.session.sp = field.length;
+    field.session.m = 1;
+    Some(false)
+}
+
+/// The slot named, the registers and the kind.
+fn damage_session(rng: &mut Rng, world: &mut World, kind: &str, target: &Target) -> Option<bool> {
+    let (floor, length, count) = (target.floor, target.record.length, target.count);
+    let bytes = 2 * target.words;
+    let field = world.bench.records.get_mut(target.number)?;
+    let session = &mut field.session;
+    match kind {
+        "slot named is 16 or more" => {
+            let named = target.record.slot;
+            field.slot = rng.pick(&[16, 17, 255, 256 + named, WIDE + named, u64::MAX], 16);
+        }
+        "SP at a limit" => session.sp = rng.pick(&[floor, length], length),
+        "SP outside" => {
+            session.sp = rng.pick(&[floor - 1, length + 1, 0, WIDE + floor, u64::MAX], 0);
+        }
+        "M at a limit" => session.m = rng.pick(&[1, length - 5], 1),
+        "M outside" => session.m = rng.pick(&[0, length - 4, length, WIDE + 1, u64::MAX], 0),
+        "counter at a limit" => session.counter = rng.pick(&[22, bytes], 22),
+        "counter outside" => {
+            session.counter = rng.pick(&[21, bytes + 1, 0, WIDE + 22, u64::MAX], 0);
+        }
+        "routine at a limit" => session.routine = rng.pick(&[1, count], 1),
+        "routine outside" => {
+            session.routine = rng.pick(&[0, count + 1, 256, WIDE + 1, u64::MAX], 0);
+        }
+        "fault and place at a limit" => {
+            let (number, place) = (rng.pick(&[1, 10], 1), rng.pick(&[22, bytes], 22));
+            session.kind = Kind::Faulted { number, place };
+        }
+        "fault outside 1..10" => {
+            session.kind = Kind::Faulted { number: rng.pick(&[0, 11, 255], 0), place: 22 };
+        }
+        "place outside 22..2W" => {
+            let place = rng.pick(&[21, bytes + 1, 0, WIDE + 22, u64::MAX], 0);
+            session.kind = Kind::Faulted { number: 1, place };
+        }
+        _ => return None,
+    }
+    Some(kind.ends_with("at a limit"))
+}

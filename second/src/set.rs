@@ -1,0 +1,374 @@
+//! The cases that are written: the set that is committed, and fresh ones
+//! without end.  Both are made of the same series; a series puts several cases
+//! on one world, so that few lines stand between them.
+
+use crate::cases::Writer;
+use crate::damage::{damage, DAMAGES, LARGE};
+use crate::generate::{
+    self, beside_a_limit, call, loading_case, possible_outcomes, run_case, sequence_case,
+    sound_bench, valid_segment, with_damage, Outcome, Rng, SequenceCase, FINISHED, GONE_ON, ORDINARY,
+    SMALL,
+};
+use crate::hand::table;
+use crate::machine::Kind;
+use crate::steps::{base, draw, placed, Place};
+use crate::world::{Call, Request, World};
+use std::io::{self, Write};
+
+/// How often each possible step outcome is in the committed set.
+pub const WANTED: usize = 20;
+/// Cases in a series of single steps on one world.
+const SERIES: usize = 16;
+
+/// How often an outcome is drawn for it: oftener where it has several causes.
+fn drawn(outcome: Outcome) -> usize {
+    match outcome {
+        (Some(150), 9) => 100,
+        (Some(128..), GONE_ON | FINISHED | 6 | 7 | 9 | 10) => 2 * WANTED,
+        _ => WANTED + 4,
+    }
+}
+
+/// A writer with the randomness and the number of cases wanted.
+pub struct Set<'a, Q: Write, A: Write> {
+    pub writer: &'a mut Writer<Q, A>,
+    rng: Rng,
+    most: u64,
+}
+
+impl<'a, Q: Write, A: Write> Set<'a, Q, A> {
+    pub fn new(writer: &'a mut Writer<Q, A>, seed: u64) -> Self {
+        Set { writer, rng: Rng(seed), most: u64::MAX }
+    }
+
+    /// The committed set.
+    pub fn committed(&mut self) -> io::Result<()> {
+        self.worked_by_hand()?;
+        self.writer.remark("single steps: every first byte, every outcome possible for it")?;
+        self.every_step()?;
+        self.writer.remark("segments judged and turned")?;
+        for _ in 0..40 {
+            self.segments(12)?;
+        }
+        for _ in 0..12 {
+            self.large_segment()?;
+        }
+        self.writer.remark("benches sound, and damaged in one field")?;
+        self.every_damage(6)?;
+        self.writer.remark("runs")?;
+        for _ in 0..100 {
+            self.run()?;
+        }
+        self.writer.remark("entries one after another")?;
+        for _ in 0..120 {
+            self.loading()?;
+        }
+        for _ in 0..90 {
+            self.sequence()?;
+        }
+        self.writer.remark("new benches with numbers at limits")?;
+        self.new_benches()
+    }
+
+    /// Fresh cases of all sorts, so many.
+    pub fn fresh(&mut self, count: u64) -> io::Result<()> {
+        self.most = count;
+        while !self.full() {
+            match self.rng.up_to(99) {
+                0..=11 => self.some_steps(SERIES)?,
+                12..=27 => self.segments(10)?,
+                28 => self.large_segment()?,
+                29..=43 => self.some_damages(8)?,
+                44..=63 => self.run()?,
+                64..=75 => self.loading()?,
+                76..=97 => self.sequence()?,
+                _ => self.new_bench()?,
+            }
+        }
+        Ok(())
+    }
+
+    /// The table of hand-worked cases, each sentence before its cases.
+    fn worked_by_hand(&mut self) -> io::Result<()> {
+        let mut sentence = "";
+        for (number, case) in (1..).zip(table()) {
+            if case.sentence != sentence {
+                sentence = case.sentence;
+                self.writer.remark(sentence)?;
+            }
+            self.writer.remark(&format!("hand {number}: {}", case.name))?;
+            self.writer.case(case.start)?;
+            for asked in case.asked {
+                let answer = self.writer.ask(asked.request)?;
+                if answer != asked.answer || *self.writer.world() != asked.after {
+                    self.complain(format!("hand {number}, {}: not as worked out", case.name));
+                }
+            }
+        }
+        Ok(())
+    }
+
+    fn full(&self) -> bool {
+        self.writer.cases() >= self.most
+    }
+
+    fn ask(&mut self, request: Request) -> io::Result<()> {
+        self.writer.ask(request).map(|_| ())
+    }
+
+    // ---------------------------------------------------------- single steps
+
+    /// Every possible outcome as often as wanted.
+    fn every_step(&mut self) -> io::Result<()> {
+        let mut place = base(&mut self.rng);
+        let (mut used, mut fruitless) = (0, 0);
+        for first in std::iter::once(None).chain((0..=255).map(Some)) {
+            let hoped: Vec<Outcome> =
+                possible_outcomes().into_iter().filter(|(byte, _)| *byte == first).collect();
+            for _ in 0..200_000 {
+                let coverage = &self.writer.coverage;
+                if hoped.iter().all(|outcome| coverage.seen(*outcome) >= drawn(*outcome)) {
+                    break;
+                }
+                if used >= SERIES || fruitless > 60 {
+                    place = base(&mut self.rng);
+                    (used, fruitless) = (0, 0);
+                }
+                let now = if used == 0 { &place.world } else { self.writer.world() };
+                match draw(&mut self.rng, &place, now, first) {
+                    Some((next, outcome)) if self.writer.coverage.seen(outcome) < drawn(outcome) => {
+                        used += self.step(&place, next)?;
+                    }
+                    _ => fruitless += 1,
+                }
+            }
+        }
+        Ok(())
+    }
+
+    /// A series on one world; for each case an outcome is hoped for.
+    fn some_steps(&mut self, many: usize) -> io::Result<()> {
+        let place = base(&mut self.rng);
+        let possible = possible_outcomes();
+        let mut used = 0;
+        while used < many && !self.full() {
+            let hoped = self.rng.pick(&possible, (None, 1));
+            let mut chosen = None;
+            for _ in 0..12 {
+                let now = if used == 0 { &place.world } else { self.writer.world() };
+                let drawn = draw(&mut self.rng, &place, now, hoped.0);
+                let found = drawn.as_ref().is_some_and(|(_, outcome)| *outcome == hoped);
+                chosen = drawn.map(|(next, _)| next).or(chosen);
+                if found {
+                    break;
+                }
+            }
+            if let Some(next) = chosen {
+                used += self.step(&place, next)?;
+            } else {
+                used += 1;
+            }
+        }
+        Ok(())
+    }
+
+    /// One step, and what it counts for in a series (much on a large world).
+    fn step(&mut self, place: &Place, next: World) -> io::Result<usize> {
+        let weight = 1 + next.memory.len() / 20_000;
+        self.writer.case(next)?;
+        self.ask(Request::Entry(Call::Turn { session: place.session as u64, k: 1 }))?;
+        Ok(weight)
+    }
+
+    // -------------------------------------------------------------- segments
+
+    /// A valid segment, and others made of it.
+    fn segments(&mut self, many: usize) -> io::Result<()> {
+        let program = self.rng.chance(1, 3);
+        let good = valid_segment(&mut self.rng, generate::Wish { program, ..ORDINARY });
+        for index in 0..many {
+            let bytes = match self.rng.up_to(9) {
+                _ if index == 0 => good.clone(),
+                0..=6 => beside_a_limit(&mut self.rng, good.clone()),
+                7 | 8 => with_damage(&mut self.rng, good.clone()),
+                _ => (0..self.rng.up_to(50)).map(|_| self.rng.next() as u8).collect(),
+            };
+            self.segment(bytes)?;
+        }
+        Ok(())
+    }
+
+    /// Judge and turn a segment.
+    fn segment(&mut self, bytes: Vec<u8>) -> io::Result<()> {
+        if self.full() {
+            return Ok(());
+        }
+        let length = bytes.len() as u64;
+        let mut world = self.writer.world().clone();
+        world.store = bytes;
+        self.writer.case(world)?;
+        self.ask(Request::Judge)?;
+        let lengths = [length, length, length + 1, length + 9, length.saturating_sub(1), length / 2, 0];
+        let output = self.rng.pick(&lengths, length);
+        self.ask(Request::TurnOver(output))
+    }
+
+    /// A segment at the upper limit of W, with its numbers at theirs.
+    fn large_segment(&mut self) -> io::Result<()> {
+        let words = self.rng.pick(&[32_766, 32_767, 32_767, 32_768], 32_767);
+        let mut bytes = SMALL.to_vec();
+        bytes.resize(2 * words as usize, self.rng.pick(&[7, 0, 156], 7));
+        let sex = crate::segment::Sex::LeastFirst;
+        let dictionary = self.rng.pick(&[11, words - 2, words - 3, words - 1, words], 11);
+        let entry = self.rng.pick(&[words - 2, words - 5, words - 1, 14, 14], 14);
+        let exit_ic = self.rng.pick(&[2 * words - 1, 2 * words, 22], 22);
+        generate::put_word(&mut bytes, sex, 0, dictionary);
+        generate::put_word(&mut bytes, sex, 7, self.rng.pick(&[0, 0, words - 1, words], 0));
+        generate::put_word(&mut bytes, sex, entry, self.rng.pick(&[0, 32_767], 0));
+        generate::put_word(&mut bytes, sex, entry - 1, exit_ic);
+        generate::put_word(&mut bytes, sex, dictionary, 1);
+        generate::put_word(&mut bytes, sex, dictionary + 1, entry);
+        self.segment(bytes)
+    }
+
+    // --------------------------------------------------------------- damages
+
+    /// Every damage so many times (those of a large memory twice).
+    fn every_damage(&mut self, times: usize) -> io::Result<()> {
+        let mut start = sound_bench(&mut self.rng);
+        let mut on_it = 0;
+        for kind in DAMAGES {
+            let mut left = if kind == LARGE { 2 } else { times };
+            for _ in 0..400 {
+                if left == 0 {
+                    break;
+                }
+                if on_it >= 8 {
+                    start = sound_bench(&mut self.rng);
+                    on_it = 0;
+                }
+                let done = self.damaged(&start, kind)?;
+                on_it += if done { 1 } else { 4 };
+                left -= usize::from(done);
+            }
+            if left > 0 {
+                self.complain(format!("{kind}: {left} of {times} missing"));
+            }
+        }
+        Ok(())
+    }
+
+    fn some_damages(&mut self, many: usize) -> io::Result<()> {
+        let start = sound_bench(&mut self.rng);
+        for _ in 0..many {
+            let kind = self.rng.pick(&DAMAGES, "M outside");
+            if kind != LARGE || self.rng.chance(1, 50) {
+                self.damaged(&start, kind)?;
+            }
+        }
+        Ok(())
+    }
+
+    /// A bench with one damage: is it sound, and what does an entry say?
+    fn damaged(&mut self, start: &World, kind: &'static str) -> io::Result<bool> {
+        let mut world = start.clone();
+        let Some(sound) = damage(&mut self.rng, &mut world, kind) else { return Ok(false) };
+        if self.full() {
+            return Ok(true);
+        }
+        if world.is_sound() != sound {
+            self.complain(format!("{kind}: sound should be {sound}"));
+        }
+        *self.writer.coverage.damages.entry((kind, sound)).or_default() += 1;
+        // an entry that would be sensible on the bench before
+        let next = call(&mut self.rng, start);
+        self.writer.case(world)?;
+        self.ask(Request::Sound)?;
+        self.ask(Request::Entry(next))?;
+        Ok(true)
+    }
+
+    fn complain(&mut self, what: String) {
+        self.writer.coverage.complaints.push(what);
+    }
+
+    // ---------------------------------------------------- runs and sequences
+
+    /// A session run for many steps, in one turn or in several.
+    fn run(&mut self) -> io::Result<()> {
+        if self.full() {
+            return Ok(());
+        }
+        let case = run_case(&mut self.rng);
+        let place = placed(&mut self.rng, &case);
+        if place.world.memory.len() > 100_000 {
+            return Ok(());
+        }
+        let session = place.session as u64;
+        self.writer.case(place.world)?;
+        let turns = self.rng.pick(&[1, 1, 2, 5], 1);
+        for _ in 0..turns {
+            let k = self.rng.pick(&[0, 1, 2, 9, 100, 400, case.k, case.k, case.k, case.k], 9);
+            self.ask(Request::Entry(Call::Turn { session, k }))?;
+        }
+        let record = self.writer.world().bench.records.get(place.session);
+        let ended = record.is_some_and(|record| record.session.kind != Kind::Ready);
+        if ended && self.rng.chance(1, 3) {
+            // a session that is not ready gives 0
+            self.ask(Request::Entry(Call::Turn { session, k: 5 }))?;
+        }
+        Ok(())
+    }
+
+    /// Entries from several sessions on one bench.
+    fn sequence(&mut self) -> io::Result<()> {
+        let case = sequence_case(&mut self.rng);
+        self.calls(case)
+    }
+
+    /// A segment loaded twice.
+    fn loading(&mut self) -> io::Result<()> {
+        let case = loading_case(&mut self.rng);
+        self.calls(case)
+    }
+
+    fn calls(&mut self, case: SequenceCase) -> io::Result<()> {
+        if self.full() {
+            return Ok(());
+        }
+        self.writer.case(case.start)?;
+        for call in case.calls {
+            self.ask(Request::Entry(call))?;
+        }
+        Ok(())
+    }
+
+    // ------------------------------------------------------------ new benches
+
+    /// All pairs of numbers at limits.
+    fn new_benches(&mut self) -> io::Result<()> {
+        for shared in SIZES_OF_S {
+            for words in SIZES_OF_N {
+                let world = self.writer.world().clone();
+                self.writer.case(world)?;
+                self.ask(Request::Entry(Call::New { shared, words }))?;
+            }
+        }
+        Ok(())
+    }
+
+    fn new_bench(&mut self) -> io::Result<()> {
+        if self.full() {
+            return Ok(());
+        }
+        let shared = self.rng.pick(&SIZES_OF_S, 0);
+        let words = self.rng.pick(&SIZES_OF_N, 0);
+        let world = self.writer.world().clone();
+        self.writer.case(world)?;
+        self.ask(Request::Entry(Call::New { shared, words }))?;
+        self.ask(Request::Sound)
+    }
+}
+
+const SIZES_OF_S: [u64; 7] = [0, 1, 2, 32_768, 32_769, 1 << 32, u64::MAX];
+const SIZES_OF_N: [u64; 8] = [0, 1, 32_768, 40_000, 1_048_576, 1_048_577, 1 << 32, u64::MAX];

@@ -1,0 +1,216 @@
+//! Single steps: a session with its neighbours on a bench, and next worlds
+//! drawn from the one that is there, in which that session meets a given first
+//! byte near a limit of its own.
+
+use crate::bench::{Record, Slot};
+use crate::coverage::came_to;
+use crate::generate::{
+    operand_size, registers, session_case, telling_integer, telling_mark, telling_operands,
+    telling_word, Outcome, Rng, RunCase, View,
+};
+use crate::machine::{self, Instruction, Kind, Op, Session};
+use crate::segment::Segment;
+use crate::world::{blank_bench, World};
+
+/// A world and the number of the session that is looked at.
+pub struct Place {
+    pub world: World,
+    pub session: usize,
+}
+
+/// A place for single steps.
+pub fn base(rng: &mut Rng) -> Place {
+    let case = session_case(rng);
+    placed(rng, &case)
+}
+
+/// Put a session with its segment on a bench, often between neighbours that
+/// run the same segment; its region touches theirs or the shared words, or
+/// stands apart.
+pub fn placed(rng: &mut Rng, case: &RunCase) -> Place {
+    let mut bench = blank_bench();
+    let mut store = vec![rng.next() as u8; rng.pick(&[0, 0, 0, 2, 6, 1], 0)];
+    let (slot, session) = (rng.up_to(15), rng.up_to(15) as usize);
+    let loaded =
+        Slot { loaded: true, start: store.len() as u64, length: case.segment.len() as u64 };
+    // sometimes a second slot has the same bytes
+    let other = if rng.chance(1, 3) { rng.up_to(15) } else { slot };
+    for number in [slot, other] {
+        if let Some(place) = bench.slots.get_mut(number as usize) {
+            *place = loaded;
+        }
+    }
+    store.extend(&case.segment);
+    store.extend(vec![0; rng.pick(&[0, 0, 0, 2, 5], 0)]);
+
+    let mut memory = case.shared.clone();
+    bench.shared = memory.len() as u64;
+    let mut neighbours = Neighbours { slot, number: session };
+    neighbours.add(rng, case, &mut bench.records, &mut memory);
+    let record = Record {
+        open: true,
+        slot,
+        base: memory.len() as u64,
+        length: case.region.len() as u64,
+        session: case.session,
+    };
+    if let Some(place) = bench.records.get_mut(session) {
+        *place = record;
+    }
+    memory.extend(&case.region);
+    neighbours.add(rng, case, &mut bench.records, &mut memory);
+    if rng.chance(1, 400) {
+        memory.resize(1_048_576, 0);
+    }
+    bench.words = memory.len() as u64;
+    Place { world: World { bench, memory, store }, session }
+}
+
+struct Neighbours {
+    slot: u64,
+    /// The last record used.
+    number: usize,
+}
+
+impl Neighbours {
+    /// Free words and another session, or neither.
+    fn add(&mut self, rng: &mut Rng, case: &RunCase, records: &mut [Record; 16], memory: &mut Vec<u16>) {
+        let free = rng.pick(&[0, 0, 0, 1, 5], 0);
+        memory.resize(memory.len() + free, 0);
+        let Ok(segment) = Segment::judge(&case.segment) else { return };
+        let length = u64::from(segment.global_size() + 6).max(16);
+        if length > 60 || rng.chance(1, 2) {
+            return;
+        }
+        self.number = (self.number + 1 + rng.up_to(4) as usize) % 16;
+        let mut session = registers(rng, &segment, length as i64);
+        session.kind = match rng.up_to(3) {
+            0 => Kind::Finished,
+            1 => Kind::Faulted { number: rng.between(1, 10) as u8, place: session.counter },
+            _ => Kind::Ready,
+        };
+        let base = memory.len() as u64;
+        if let Some(record) = records.get_mut(self.number) {
+            *record = Record { open: true, slot: self.slot, base, length, session };
+        }
+        memory.resize((base + length) as usize, rng.pick(&[0, 0, 7], 0));
+    }
+}
+
+/// What one step of a session would come to, by the plain machine.
+pub fn outcome(world: &World, number: usize) -> Option<Outcome> {
+    let record = world.bench.records.get(number)?;
+    let bytes = world.segment_bytes(record.slot)?;
+    let segment = Segment::judge(bytes).ok()?;
+    let shared = world.memory.get(..world.bench.shared as usize)?;
+    let mut region = world.region(number)?.to_vec();
+    let mut session = record.session;
+    machine::step(&segment, shared, &mut region, &mut session);
+    Some((bytes.get(record.session.counter as usize).copied(), came_to(session.kind)))
+}
+
+/// The world changed so that its session meets a first byte (or, for `None`,
+/// the end of the segment), with what the step will come to.  `None` if the
+/// draw gave nothing sound.
+pub fn draw(rng: &mut Rng, place: &Place, world: &World, first: Option<u8>) -> Option<(World, Outcome)> {
+    let record = *world.bench.records.get(place.session)?;
+    let segment = Segment::judge(world.segment_bytes(record.slot)?).ok()?;
+    let length = record.length as i64;
+    let mut session = registers(rng, &segment, length);
+    let mut region = world.region(place.session)?.to_vec();
+    let instruction = first.and_then(machine::instruction);
+    if let Some(row) = &instruction {
+        set_words(rng, row, &segment, &session, world.bench.shared as i64, &mut region);
+    }
+
+    let end = segment.bytes.len() as i64;
+    let mut code = Vec::new();
+    session.counter = end as u64;
+    if let Some(first) = first {
+        // Where it stands: somewhere, at the very end, or cut off by the end.
+        let size = 1 + operand_size(first, rng);
+        let at = match rng.up_to(4) {
+            0 => end - size,
+            1 => end - rng.between(1, size),
+            _ => rng.between(22, end - size),
+        };
+        session.counter = u64::try_from(at).ok().filter(|at| *at >= 22)?;
+        code.push(first);
+        if let Some(row) = &instruction {
+            let shared_length = world.bench.shared as i64;
+            let view = View { segment: &segment, region: &region, session: &session, shared_length };
+            telling_operands(rng, row, &view, at + size, size, &mut code);
+        }
+    }
+    let next = changed(world, place.session, session, &region, &code)?;
+    let outcome = outcome(&next, place.session)?;
+    Some((next, outcome))
+}
+
+/// The words that matter to an instruction: what it takes, and the mark or
+/// link it looks at.
+fn set_words(
+    rng: &mut Rng,
+    row: &Instruction,
+    segment: &Segment,
+    session: &Session,
+    shared: i64,
+    region: &mut [u16],
+) {
+    let length = region.len() as i64;
+    if rng.chance(3, 4) {
+        let mut last = 0;
+        for word in region.iter_mut().skip(session.sp as usize).take(row.taken as usize) {
+            *word = match row.op {
+                Op::LoadIndexed | Op::StoreIndirect => telling_word(rng, length, shared),
+                _ => telling_integer(rng, last),
+            };
+            last = *word;
+        }
+    }
+    let linked = matches!(
+        row.op,
+        Op::LoadIntermediate | Op::AddressIntermediate | Op::StoreIntermediate | Op::CallIntermediate
+    );
+    let looked_at = match row.op {
+        Op::Return => 5,
+        _ if linked => 1,
+        _ => 0,
+    };
+    if looked_at > 0 && rng.chance(if row.op == Op::Return { 9 } else { 6 }, 10) {
+        let m = session.m as i64;
+        let mark = telling_mark(rng, segment, length, m);
+        for (place, word) in region.iter_mut().skip(m as usize).take(looked_at).zip(mark) {
+            *place = word;
+        }
+        // where the link leads, a second one
+        if let (true, Some(place)) = (linked && rng.chance(1, 2), mark.first().copied()) {
+            if let Some(word) = region.get_mut(usize::from(place)) {
+                *word = rng.pick(&[1, place, (length - 5) as u16], 1);
+            }
+        }
+    }
+}
+
+/// The world with new registers, words and code; only if it is sound.  Code
+/// may have been laid over the segment's own words.
+fn changed(
+    world: &World,
+    number: usize,
+    session: Session,
+    region: &[u16],
+    code: &[u8],
+) -> Option<World> {
+    let mut next = world.clone();
+    let record = next.bench.records.get_mut(number)?;
+    record.session = session;
+    let base = record.base as usize;
+    let slot = *next.bench.slots.get(record.slot as usize)?;
+    next.memory.get_mut(base..base + region.len())?.copy_from_slice(region);
+    let room = (slot.length - session.counter) as usize;
+    let at = (slot.start + session.counter) as usize;
+    for (place, byte) in next.store.iter_mut().skip(at).zip(code.iter().take(room)) {
+        *place = *byte;
+    }
+    next.is_sound().then_some(next)
+}
