@@ -47,16 +47,6 @@ pub fn gap(used: usize, width: usize) {
 
 // A byte in two digits, with a blank after it.
 fn byte(b: u8) {
-    let digits = b"0123456789ABCDEF";
-    one(digits, b / 16);
-    one(digits, b % 16);
+    say::hex(b as u64, 2);
     say::blanks(1);
-}
-
-// Character d of a text.
-fn one(all: &[u8], d: u8) {
-    let k = d as usize;
-    if k < all.len() {
-        say::text(&all[k..k + 1]);
-    }
 }

@@ -16,9 +16,31 @@ pub fn number(n: u64) {
     io::print_decimal(STDOUT_FILENO, n);
 }
 
-// In hexadecimal, with zeros in front up to width digits.
+// In hexadecimal with capital letters, as the papers print bytes, and zeros in front up to width digits.
 pub fn hex(n: u64, width: usize) {
-    io::print_hex(STDOUT_FILENO, n, width);
+    let mut digits = [0u8; 16];
+    let k = io::hex(n, width, &mut digits);
+    capitals(&digits[..k]);
+}
+
+fn capitals(bytes: &[u8]) {
+    let mut i = 0;
+    while i < bytes.len() {
+        letter(bytes[i]);
+        i += 1;
+    }
+}
+
+fn letter(b: u8) {
+    let one = [capital(b)];
+    text(&one);
+}
+
+fn capital(b: u8) -> u8 {
+    if b < b'a' {
+        return b;
+    }
+    b - 32
 }
 
 pub fn end() {
