@@ -34,6 +34,33 @@ def many(words, d, entries):
 
 TWO = many(20, 11, [15, 17])
 
+
+# a segment that runs: for each routine its DATASIZE and its code, the dictionary at word 11; EXITIC is the routine's last RPU, or its first byte
+def program(*routines):
+    seg = put(SMALL[:22] + bytes(2 + 2 * len(routines)), (11, len(routines)))
+    for k, (data, code) in enumerate(routines):
+        e = len(seg) // 2 + 1
+        start = 2 * (e + 1)
+        back = code.rfind(bytes([RPU]))
+        seg += (start + max(back, 0)).to_bytes(2, 'little') + data.to_bytes(2, 'little') + code + bytes(len(code) % 2)
+        seg = put(seg, (12 + k, e))
+    return seg
+
+
+LDCI, UJP, DVI, CPG, RPU, ADI, SBI, SRO, NEQI, DECI, TJP = 129, 138, 141, 145, 150, 162, 163, 165, 177, 238, 241
+SLDL1, SLDO1, SLDO2, SSTL1, SIND0 = 32, 48, 49, 104, 120
+
+# the sum of 10 to 1 in global 1, -7 in global 2, and 42 in global 4 by a call of routine 2: 4 + 10 * 11 + 4 + 1 + 7 + 1 = 127 steps
+SUM = program(
+    (4, bytes([0, SRO, 1, 10, SRO, 2] + [SLDO1, SLDO2, ADI, SRO, 1, SLDO2, DECI, SRO, 2, SLDO2, 0, NEQI, TJP, 256 - 14] +
+              [0, 7, SBI, SRO, 2, CPG, 2, RPU, 0])),
+    (1, bytes([21, SSTL1, SLDL1, SLDL1, ADI, SRO, 4, RPU, 1])))
+# shared word 2 to global 1, in 4 steps; a division by zero in step 3; a loop without end; 900 globals
+READS = program((1, bytes([LDCI, 2, 128, SIND0, SRO, 1, RPU, 0])))
+DIVIDES = program((0, bytes([5, 0, DVI, RPU, 0])))
+LOOPS = program((0, bytes([UJP, 256 - 2, RPU, 0])))
+WIDE = program((900, bytes([7, SRO, 0x83, 0x84, RPU, 0])))
+
 FILES = {
     'small': SMALL, 'turned': TURNED,
     'length0': b'', 'length1': b'\0', 'length30': SMALL[:30], 'length31': SMALL[:31], 'length33': SMALL + b'\0', 'length34': SMALL + b'\0\0',
@@ -54,11 +81,14 @@ FILES = {
     'order2': put(sex(0, 0), (RELOC, 1)), 'order3': small((RELOC, 1), (POOL, 10), (DICT, 10)), 'order4': small((POOL, 10), (DICT, 10)),
     'same': many(20, 11, [15, 15]), 'shares': small((12, 12)),
     'inside': put(SMALL[:22].ljust(80, b'\0'), (DICT, 12), (12, 22), *[(w, 13) for w in range(13, 35)]),
+    'sum': SUM, 'reads': READS, 'divides': DIVIDES, 'loops': LOOPS, 'wide': WIDE,
     'name': SMALL[:4] + b'A\tB\x1b\x7f\x80\xff~' + SMALL[12:],
 }
 
 OTHERS = {
     'way.seg.pond-new': b'left by a run that was cut short\n',
+    'archive': b''.join(w.to_bytes(2, 'little') for w in (1, 2, 300, 65535, 0, 0, 0, 32768)),
+    'archive7': bytes(range(1, 8)), 'archive18': bytes(range(1, 19)), 'archive0': b'', 'archive2': b'\x39\x30',
     'folder/keep': b'a folder where a file is asked for\n',
 }
 
@@ -205,7 +235,274 @@ turn small.seg other.seg more words
 help me
 {tab}check   small.seg  {cr}
 {tall}
-check other.seg'''.replace('{long}', 'n' * 300).replace('{zero}', '\0').replace('{tab}', ' \t').replace('{cr}', '\r').replace(
+check other.seg
+
+# the bench that the console begins with: 65536 words, none of them shared
+map
+shared
+shared 0
+# slots and sessions that are not there: 12
+show 0
+show 16
+words 0
+close 0
+close 18446744073709551615
+turn 0 5
+turn 16 0
+open 0 100
+open 16 100
+# 17: N above 1048576, S above 32768, S above N; the bench stays as it was
+bench 1048577 0
+bench 1048576 32769
+bench 10 11
+bench 18446744073709551615 18446744073709551615
+map
+
+# a bench with shared words
+bench 1000 8
+map
+shared
+fill archive
+shared
+shared 3
+shared 2 3
+shared 7 1
+shared 8
+shared 7 2
+shared 0 0
+shared 18446744073709551615 18446744073709551615
+# too many bytes, an odd number of them, no file, a folder: the words stay as they were
+fill archive18
+fill archive7
+fill missing
+fill folder
+fill archive0
+shared
+# words beyond the file's end stay
+fill archive2
+shared
+
+# loading: 12 for a slot above 15 or loaded, then 1 to 8; the store's places stay apart
+load 0 sum.seg
+load 1 reads.seg
+load 15 divides.seg
+load 3 loops.seg
+load 0 loops.seg
+load 16 sum.seg
+load 16 missing.seg
+load 18446744073709551615 sum.seg
+load 4 missing.seg
+load 4 folder
+load 4 length0.seg
+load 4 length31.seg
+load 4 length65536.seg
+load 4 length70000.seg
+load 4 second7.seg
+load 4 small.seg
+load 4 small.seg
+load 5 length65534.seg
+
+# opening: 12 not loaded, 13 words outside 16..32768 or below 6+G, 15 no gap; the lowest gap from the shared words up
+open 2 100
+open 0 15
+open 0 32769
+open 0 18446744073709551615
+open 0 993
+open 0 100
+open 1 50
+open 15 16
+open 3 17
+open 4 16
+map
+
+# a turn of no steps, of some, and to the end; 127 steps in all
+show 0
+turn 0 0
+turn 0 5
+show 0
+words 0 1 9
+turn 0 100
+turn 0 18446744073709551615
+show 0
+turn 0 10
+words 0
+words 0 6 4
+words 0 91
+words 0 99 1
+words 0 99 2
+words 0 100
+words 0 0
+words 0 0 5
+words 0 5 0
+words 0 18446744073709551615 18446744073709551615
+words 16
+# shared word 2 is 300
+turn 1 4
+words 1 6 1
+turn 1 4
+# a division by zero in the third step; nothing is popped
+turn 2 2
+turn 2 2
+show 2
+turn 2 1
+words 2
+# document 01, A small segment and its run: a turn of 9 returns 3, fault 1 at place 32
+turn 4 2
+words 4 14 2
+turn 4 7
+show 4
+words 4
+# a loop without end, and how far a long run is
+turn 3 65536
+turn 3 100000001
+show 3
+map
+
+# closing: words and record are free, and given again; the words are zero then
+close 1
+close 1
+map
+open 4 18
+words 1
+open 4 33
+map
+# 14: all 16 records
+open 3 16
+open 3 16
+open 3 16
+open 3 16
+open 3 16
+open 3 16
+open 3 16
+open 3 16
+open 3 16
+open 3 16
+open 3 16
+map
+close 7
+open 3 16
+# 13 comes before 14, and 14 before 15
+open 3 15
+open 3 32768
+
+# a new bench forgets all, and its words are zero
+bench 1048576 32768
+show 0
+load 0 sum.seg
+shared 0 4
+fill length65536.seg
+fill length70000.seg
+open 0 32768
+turn 0 127
+words 0 1 10
+words 0 32760
+map
+bench 15 0
+load 0 sum.seg
+open 0 16
+bench 0 0
+map
+shared
+bench 1 1
+map
+fill archive2
+shared
+
+# a segment on a bench of its own
+run sum.seg
+run sum.seg 100
+run sum.seg 16
+run reads.seg 16
+run divides.seg 20 3
+run small.seg 16 9
+run loops.seg 16 1000
+run wide.seg
+run sum.seg 15
+run sum.seg 9
+run sum.seg 0
+run sum.seg 32769
+run sum.seg 18446744073709551615
+run data32767.seg
+run sum.seg 100 0
+run missing.seg
+run folder
+run length31.seg
+run second7.seg
+# the console's own bench is as it was
+map
+
+list sum.seg
+list length31.seg
+list second7.seg
+list missing.seg
+list folder
+demo
+
+# words that are no numbers, too few and too many words, numbers past 64 bits
+bench
+bench 10
+bench 10 x
+bench x 10
+bench 10 2 3
+bench -1 0
+bench 1e3 0
+bench 18446744073709551616 0
+bench 0 99999999999999999999999999999999999999999999999
+bench 0000000000000000000000000000000000000000000000001000 08
+fill
+fill archive more
+load
+load 0
+load x sum.seg
+load 18446744073709551616 sum.seg
+load 0 sum.seg more
+open
+open 0
+open 0 x
+open x 0
+open 0 16 0
+open 0 18446744073709551616
+turn
+turn 0
+turn 0 x
+turn 0 1 2
+turn 18446744073709551616 1
+turn 0 18446744073709551616
+turn ./0 other.seg
+show
+show x
+show 0 1
+show 18446744073709551616
+words
+words x
+words 0 x
+words 0 1 x
+words 0 1 2 3
+words 0 1 18446744073709551616
+shared x
+shared 0 x
+shared 0 1 2
+shared 18446744073709551616
+map 0
+close
+close x
+close 0 1
+list
+list sum.seg more
+run
+run sum.seg x
+run sum.seg 100 x
+run sum.seg 100 100 100
+run sum.seg 18446744073709551616
+run sum.seg 100 18446744073709551616
+demo 1
+help 1
+quit now
+QUIT
+map
+# nothing is followed after this
+quit
+check small.seg'''.replace('{long}', 'n' * 300).replace('{zero}', '\0').replace('{tab}', ' \t').replace('{cr}', '\r').replace(
     '{tall}', 'check ' + 'x' * 99994)
 
 os.makedirs('data/folder', exist_ok=True)

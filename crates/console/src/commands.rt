@@ -1,89 +1,168 @@
-// The commands by name, and how many words each takes.
-// Above it: what is typed, a line or the program's arguments. Below it: a module for each command.
-use crate::check;
-use crate::turn;
+// The commands by name, and which words each takes.
+// Above it: what is typed, a line or the program's arguments. Below it: a function for each command, in `filing` for files and behind `orders` for the bench.
+use crate::help;
+use orders::expected;
+use sound::Bench;
+use text::Number;
 use text::same;
 
+// The commands that need no bench. A turn is one of these where its first word is no number.
 pub enum Command {
     Help,
     Check,
+    List,
+    Run,
+    Demo,
+    Quit,
     Turn,
-    Unknown,
+    Other,
 }
 
-fn named(verb: &[u8]) -> Command {
+fn named(verb: &[u8], first: &[u8]) -> Command {
     if same(verb, b"help") {
         return Command::Help;
     }
     if same(verb, b"check") {
         return Command::Check;
     }
-    if same(verb, b"turn") {
-        return Command::Turn;
+    if same(verb, b"list") {
+        return Command::List;
     }
-    Command::Unknown
+    if same(verb, b"run") {
+        return Command::Run;
+    }
+    named_too(verb, first)
 }
 
-// How many words stand after the verb: 3 where there are more than two.
-fn given(first: &[u8], second: &[u8], over: &[u8]) -> u8 {
+fn named_too(verb: &[u8], first: &[u8]) -> Command {
+    if same(verb, b"demo") {
+        return Command::Demo;
+    }
+    if same(verb, b"quit") {
+        return Command::Quit;
+    }
+    if same(verb, b"turn") {
+        return turn_of(first);
+    }
+    Command::Other
+}
+
+// `turn SESSION STEPS` is a command on the bench.
+fn turn_of(first: &[u8]) -> Command {
+    let n = text::number_of(first);
+    match n {
+        Number::Value(_) => Command::Other,
+        Number::Beyond => Command::Other,
+        Number::Not => Command::Turn,
+    }
+}
+
+// How many words stand after the verb: 4 where there are more than three.
+fn given(first: &[u8], second: &[u8], third: &[u8], over: &[u8]) -> u8 {
     if first.len() == 0 {
         return 0;
     }
     if second.len() == 0 {
         return 1;
     }
-    if over.len() == 0 { 2 } else { 3 }
+    if third.len() == 0 {
+        return 2;
+    }
+    if over.len() == 0 { 3 } else { 4 }
 }
 
 // Follows a command: its verb, the words after it, and the first word that is too many.
-pub fn follow(verb: &[u8], first: &[u8], second: &[u8], over: &[u8]) {
-    let n = given(first, second, over);
-    let c = named(verb);
+pub fn follow(
+    b: Bench,
+    memory: &mut [u16],
+    store: &mut [u8],
+    verb: &[u8],
+    first: &[u8],
+    second: &[u8],
+    third: &[u8],
+    over: &[u8],
+) -> Bench {
+    let n = given(first, second, third, over);
+    let c = named(verb, first);
+    if let Command::Other = c {
+        return orders::follow(b, memory, store, verb, n, first, second, third);
+    }
+    of_files(c, n, first, second, third);
+    b
+}
+
+fn of_files(c: Command, n: u8, first: &[u8], second: &[u8], third: &[u8]) {
     match c {
         Command::Help => {
-            if n == 0 {
-                help();
-            } else {
-                expected(b"help");
-            }
+            help(n);
         }
         Command::Check => {
-            if n == 1 {
-                check::check(first);
-            } else {
-                expected(b"check FILE");
-            }
+            check(n, first);
+        }
+        Command::List => {
+            list(n, first);
+        }
+        Command::Run => {
+            orders::run(n, first, second, third);
+        }
+        Command::Demo => {
+            demo(n);
+        }
+        Command::Quit => {
+            quit(n);
         }
         Command::Turn => {
-            if n == 2 {
-                turn::turn(first, second);
-            } else {
-                expected(b"turn FILE OUT");
-            }
+            turn(n, first, second);
         }
-        Command::Unknown => {
-            unknown(verb);
-        }
+        Command::Other => {}
     }
 }
 
-fn expected(form: &[u8]) {
-    say::text(b"cannot follow that: expected ");
-    say::text(form);
-    say::end();
+fn help(n: u8) {
+    if n == 0 {
+        help::help();
+    } else {
+        expected(b"help");
+    }
 }
 
-fn unknown(verb: &[u8]) {
-    say::text(b"cannot follow that: no command is called ");
-    say::path(verb);
-    say::text(b"; help lists them\n");
+fn check(n: u8, first: &[u8]) {
+    if n == 1 {
+        filing::check(first);
+    } else {
+        expected(b"check FILE");
+    }
 }
 
-fn help() {
-    say::text(
-        b"check FILE     the header numbers and routines of a segment, or why it is refused\n",
-    );
-    say::text(b"turn FILE OUT  writes the segment with the other byte sex to OUT\n");
-    say::text(b"help           this page\n");
-    say::text(b"A line that begins with # is a remark. The end of the input ends the console.\n");
+fn list(n: u8, first: &[u8]) {
+    if n == 1 {
+        filing::list(first);
+    } else {
+        expected(b"list FILE");
+    }
+}
+
+fn demo(n: u8) {
+    if n == 0 {
+        alone::demo();
+    } else {
+        expected(b"demo");
+    }
+}
+
+// Lines end at this word; as the program's only argument it does nothing.
+fn quit(n: u8) {
+    if n != 0 {
+        expected(b"quit");
+    }
+}
+
+fn turn(n: u8, first: &[u8], second: &[u8]) {
+    if n == 2 {
+        filing::turn(first, second);
+    } else if n == 0 {
+        expected(b"turn SESSION STEPS or turn FILE OUT");
+    } else {
+        expected(b"turn FILE OUT");
+    }
 }

@@ -1,0 +1,3 @@
+-- What a reader of this crate must believe: its definitions, a module each.
+pub mod Answer
+pub mod Fault
