@@ -42,6 +42,20 @@ pub fn table() -> Vec<Hand> {
     table.cases
 }
 
+/// The first bytes that 01 carries, by hand from its list and appendix B.
+pub fn carried() -> Vec<u8> {
+    (0..=63)
+        .chain(96..=111)
+        .chain(120..=130)
+        .chain(132..=141)
+        .chain([143, 144, 145, 146, 150, 152, 156])
+        .chain(160..=166)
+        .chain([173, 174])
+        .chain(176..=181)
+        .chain([189, 196, 203, 212, 213, 224, 225, 226, 229, 230, 237, 238, 239, 240, 241])
+        .collect()
+}
+
 /// The table while it is filled.
 pub struct Table {
     cases: Vec<Hand>,

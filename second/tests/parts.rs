@@ -3,22 +3,13 @@
 
 use second::cases::digest;
 use second::generate::SMALL;
-use second::hand::hand_segment;
+use second::hand::{carried, hand_segment};
 use second::machine::instruction;
 use second::segment::{Reader, Segment};
 
 #[test]
 fn the_carried_first_bytes() {
-    let carried: Vec<u8> = (0..=63)
-        .chain(96..=111)
-        .chain(120..=130)
-        .chain(132..=141)
-        .chain([143, 144, 145, 146, 150, 152, 156])
-        .chain(160..=166)
-        .chain([173, 174])
-        .chain(176..=181)
-        .chain([189, 196, 203, 212, 213, 224, 225, 226, 229, 230, 237, 238, 239, 240, 241])
-        .collect();
+    let carried = carried();
     for first in 0..=255u8 {
         assert_eq!(instruction(first).is_some(), carried.contains(&first), "{first}");
     }

@@ -1,7 +1,7 @@
 //! Each carried instruction's ordinary meaning and its edges, on the rig (L =
 //! 40, M = 20, 6+G = 8, word i = 1000+i, code at byte 34).
 
-use super::{ready, Rig, Table};
+use super::{carried, ready, Rig, Table};
 
 const MINUS_1: u16 = 65_535;
 const MINUS_7: u16 = 65_529;
@@ -394,16 +394,7 @@ fn fault_1_outside(t: &mut Table) {
 
 fn fault_2_not_carried(t: &mut Table) {
     t.says(r#""2 not carried"; "the first byte is judged for 1 and 2 before its operands are fetched"; "a DB byte above 127 faults with 2""#);
-    let carried: Vec<u8> = (0..=63)
-        .chain(96..=111)
-        .chain(120..=130)
-        .chain(132..=141)
-        .chain([143, 144, 145, 146, 150, 152, 156])
-        .chain(160..=166)
-        .chain([173, 174])
-        .chain(176..=181)
-        .chain([189, 196, 203, 212, 213, 224, 225, 226, 229, 230, 237, 238, 239, 240, 241])
-        .collect();
+    let carried = carried();
     for first in 0..=255u8 {
         if !carried.contains(&first) {
             t.rig(&[first], &[]).faults(2);
