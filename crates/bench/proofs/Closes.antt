@@ -8,13 +8,14 @@ use lib.Dec.{leb}
 use borrow.Author.Tests.{le-leb, lt-leb}
 use lib.ListN.{getD, set, replicate}
 use Rattle.basis.specs.Part.{splice}
+use Rattle.basis.specs.Checks.{check}
 use Rattle.sound.specs.Bench.{noSession, World, worldOf, sessionAt, at-sessions}
 use Rattle.sound.specs.Sound.{soundB}
 use Rattle.sound.specs.declared.Session.{Session}
 use Rattle.sound.specs.declared.Bench.{Bench}
 use Rattle.bench.specs.declared.Out.{Out}
 use Rattle.bench.specs.declared.Answer.the-variants.{Done, Refused}
-use Rattle.bench.specs.Answer.{Result, resultOf, done, check}
+use Rattle.bench.specs.Answer.{Result, resultOf, done}
 use Rattle.bench.specs.Entries.{isSound, openAt, cleared, closeOf}
 use Rattle.bench.proofs.Refusing.{passes, refuses}
 
@@ -36,12 +37,12 @@ module _ (store m : List ℕ) (b : Bench) (i : ℕ) where
   module _ (r : Out) (e : r .bench ≡ b) where
     pub not-sound : r .answer ≡ Refused 11 0 → soundB b m store ≡ false → resultOf r m ≡ closeOf store i (worldOf b m)
     unfolding closeOf
-    not-sound a h = refuses m b r e [] (check 11 (soundB b m store)) _ _ a tt h
+    not-sound a h = refuses m b r e [] 11 (soundB b m store) _ _ a tt h
 
     module _ (h : soundB b m store ≡ true) where
       not-open : r .answer ≡ Refused 12 0 → openAt (worldOf b m) i ≡ false → resultOf r m ≡ closeOf store i (worldOf b m)
       unfolding closeOf
-      not-open a f = refuses m b r e (check 11 (soundB b m store) ∷ []) (check 12 (openAt (worldOf b m) i)) _ _ a (h, tt) f
+      not-open a f = refuses m b r e (check 11 0 (soundB b m store) ∷ []) 12 (openAt (worldOf b m) i) _ _ a (h, tt) f
 
       pub no-record : r .answer ≡ Refused 12 0 → 15 < i → resultOf r m ≡ closeOf store i (worldOf b m)
       no-record a g = not-open a (rw (lt-leb i 15 g))

@@ -10,6 +10,7 @@ use lib.ListN.{length, getD, set, replicate}
 use Rattle.basis.specs.Bools.{every}
 use Rattle.basis.proofs.Bools.{every-holds}
 use Rattle.basis.specs.Part.{splice}
+use Rattle.basis.specs.Checks.{Check, check}
 use Rattle.sound.specs.Below.{Cpu, Routine, routineOf, startOf}
 use Rattle.sound.specs.Bench.{noSlot, codeOf, World, worldOf, at-sessions}
 use Rattle.sound.specs.Sound.{all, placed, soundB}
@@ -20,7 +21,7 @@ use Rattle.bench.specs.declared.Out.{Out}
 use Rattle.bench.specs.declared.Gap.{Gap}
 use Rattle.bench.specs.declared.Gap.the-variants.{At, Full}
 use Rattle.bench.specs.declared.Answer.the-variants.{Done, Refused}
-use Rattle.bench.specs.Answer.{Result, resultOf, done, Check, check}
+use Rattle.bench.specs.Answer.{Result, resultOf, done}
 use Rattle.bench.specs.Entries.{isSound, loadedAt, lenOk, first, unused, recordFor, lowest, gapAt, gapOf, gapFor, found, placeIn, fresh, opens, openOf}
 use Rattle.bench.proofs.Refusing.{passes, refuses}
 use Rattle.bench.proofs.Lowest.{lowest-passes}
@@ -28,11 +29,11 @@ use Rattle.bench.proofs.Lowest.{lowest-passes}
 -- the checks of an opening
 abbrev pub checksOf : List ℕ → ℕ → ℕ → World → List Check
 checksOf store slot len w =
-    check 11 (isSound store w)
-    ∷ check 12 (loadedAt w slot)
-    ∷ check 13 (lenOk (codeOf store (getD (w .bench .slots) slot noSlot)) len)
-    ∷ check 14 (leb (recordFor w) 15)
-    ∷ check 15 (found (gapFor w len))
+    check 11 0 (isSound store w)
+    ∷ check 12 0 (loadedAt w slot)
+    ∷ check 13 0 (lenOk (codeOf store (getD (w .bench .slots) slot noSlot)) len)
+    ∷ check 14 0 (leb (recordFor w) 15)
+    ∷ check 15 0 (found (gapFor w len))
     ∷ []
 
 module _ (store m : List ℕ) (b : Bench) (h : soundB b m store ≡ true) where
@@ -61,12 +62,12 @@ opened-by m b slot len i a b′ c m′ hb hm = λ j. record { answer = Done i; w
 module _ (store m : List ℕ) (b : Bench) (slot len : ℕ) where
   pub not-sound : (r : Out) → r .bench ≡ b → r .answer ≡ Refused 11 0 → soundB b m store ≡ false → resultOf r m ≡ openOf store slot len (worldOf b m)
   unfolding openOf
-  not-sound r e a h = refuses m b r e [] (check 11 (soundB b m store)) _ _ a tt h
+  not-sound r e a h = refuses m b r e [] 11 (soundB b m store) _ _ a tt h
 
   module _ (h : soundB b m store ≡ true) where
     no-code : (r : Out) → r .bench ≡ b → r .answer ≡ Refused 12 0 → loadedAt (worldOf b m) slot ≡ false → resultOf r m ≡ openOf store slot len (worldOf b m)
     unfolding openOf
-    no-code r e a f = refuses m b r e (check 11 (soundB b m store) ∷ []) (check 12 (loadedAt (worldOf b m) slot)) _ _ a (h, tt) f
+    no-code r e a f = refuses m b r e (check 11 0 (soundB b m store) ∷ []) 12 (loadedAt (worldOf b m) slot) _ _ a (h, tt) f
 
     pub no-slot : (r : Out) → r .bench ≡ b → r .answer ≡ Refused 12 0 → 15 < slot → resultOf r m ≡ openOf store slot len (worldOf b m)
     no-slot r e a g = no-code r e a (rw (lt-leb slot 15 g))
@@ -82,13 +83,13 @@ module _ (store m : List ℕ) (b : Bench) (slot len : ℕ) where
         pub bad-len : (r : Out) → r .bench ≡ b → r .answer ≡ Refused 13 0 → lenOk (codeOf store (getD (b .slots) slot noSlot)) len ≡ false → resultOf r m ≡ openOf store slot len (worldOf b m)
         unfolding openOf
         bad-len r e a g =
-            refuses m b r e (check 11 (soundB b m store) ∷ check 12 (loadedAt (worldOf b m) slot) ∷ []) (check 13 (lenOk (codeOf store (getD (b .slots) slot noSlot)) len)) _ _ a (h, (loaded, tt)) g
+            refuses m b r e (check 11 0 (soundB b m store) ∷ check 12 0 (loadedAt (worldOf b m) slot) ∷ []) 13 (lenOk (codeOf store (getD (b .slots) slot noSlot)) len) _ _ a (h, (loaded, tt)) g
 
         module _ (lk : lenOk (codeOf store (getD (b .slots) slot noSlot)) len ≡ true) (i : ℕ) (ei : i ≡ first unused (b .sessions)) where
           pub none-left : (r : Out) → r .bench ≡ b → r .answer ≡ Refused 14 0 → 15 < i → resultOf r m ≡ openOf store slot len (worldOf b m)
           unfolding openOf
           none-left r e a g =
-              refuses m b r e (check 11 (soundB b m store) ∷ check 12 (loadedAt (worldOf b m) slot) ∷ check 13 (lenOk (codeOf store (getD (b .slots) slot noSlot)) len) ∷ []) (check 14 (leb (recordFor (worldOf b m)) 15)) _ _ a (h, (loaded, (lk, tt)))
+              refuses m b r e (check 11 0 (soundB b m store) ∷ check 12 0 (loadedAt (worldOf b m) slot) ∷ check 13 0 (lenOk (codeOf store (getD (b .slots) slot noSlot)) len) ∷ []) 14 (leb (recordFor (worldOf b m)) 15) _ _ a (h, (loaded, (lk, tt)))
               (lt-leb (first unused (b .sessions)) 15 (rw ei at g))
 
           module _ (u : i ≤ 15) (g : Gap) (eg : g ≡ gapOf (b .sessions) (b .s) (b .n) len) where
@@ -98,7 +99,7 @@ module _ (store m : List ℕ) (b : Bench) (slot len : ℕ) where
             pub no-gap : (r : Out) → r .bench ≡ b → r .answer ≡ Refused 15 0 → g ≡ Full → resultOf r m ≡ openOf store slot len (worldOf b m)
             unfolding openOf
             no-gap r e a f =
-                refuses m b r e (check 11 (soundB b m store) ∷ check 12 (loadedAt (worldOf b m) slot) ∷ check 13 (lenOk (codeOf store (getD (b .slots) slot noSlot)) len) ∷ check 14 (leb (recordFor (worldOf b m)) 15) ∷ []) (check 15 (found (gapFor (worldOf b m) len))) [] _ a (h, (loaded, (lk, (left, tt))))
+                refuses m b r e (check 11 0 (soundB b m store) ∷ check 12 0 (loadedAt (worldOf b m) slot) ∷ check 13 0 (lenOk (codeOf store (getD (b .slots) slot noSlot)) len) ∷ check 14 0 (leb (recordFor (worldOf b m)) 15) ∷ []) 15 (found (gapFor (worldOf b m) len)) [] _ a (h, (loaded, (lk, (left, tt))))
                 (ap found (sym eg ∙ f))
 
             pub opened-at : (x : Result) (a : ℕ) (c : Cpu) (code : List ℕ) → code ≡ codeOf store (getD (b .slots) slot noSlot) → c ≡ startOf code len → g ≡ At a → x ≡ opens slot len c i a (worldOf b m) → x ≡ openOf store slot len (worldOf b m)

@@ -8,7 +8,8 @@ use native.Mathlib.Omega.{arith}
 use lib.Dec.{leb}
 use borrow.Author.Tests.{le-leb, lt-leb}
 use lib.ListN.{length, getD, set, take}
-use Rattle.sound.specs.Below.{Turned, Cpu, cpuOf, stateOf, judged, Accepted, cpuOk, RanTo}
+use Rattle.basis.specs.Checks.{check, passed}
+use Rattle.sound.specs.Below.{Turned, Cpu, cpuOf, stateOf, judged, cpuOk, RanTo}
 use Rattle.sound.specs.Bench.{noSession, codeOf, slotOf, World, worldOf, at-sessions, at-cpu}
 use Rattle.sound.specs.Sound.{soundB, Sound}
 use Rattle.sound.specs.declared.Session.{Session}
@@ -19,7 +20,7 @@ use Rattle.sound.proofs.Facts.{Opened, opened, few-shared}
 use Rattle.bench.specs.declared.Out.{Out}
 use Rattle.bench.specs.declared.Answer.{Answer}
 use Rattle.bench.specs.declared.Answer.the-variants.{Done, Refused}
-use Rattle.bench.specs.Answer.{Result, resultOf, done, check}
+use Rattle.bench.specs.Answer.{Result, resultOf, done}
 use Rattle.bench.specs.Entries.{isSound, openAt, ranOf, doneOf, put, turnOf}
 use Rattle.bench.proofs.Refusing.{passes, refuses}
 
@@ -40,7 +41,7 @@ module _ (store m : List ℕ) (b : Bench) (i : ℕ) (h : soundB b m store ≡ tr
   session = opened store (worldOf b m) good i u
 
   -- what the session's run asks
-  pub asked : (code : List ℕ) → code ≡ codeOf store (slotOf (b .slots) (getD (b .sessions) i noSession)) → (judged code ≡ Accepted) × ((cpuOk code (getD (b .sessions) i noSession .base + getD (b .sessions) i noSession .len - getD (b .sessions) i noSession .base) (getD (b .sessions) i noSession .cpu) ≡ true) × ((getD (b .sessions) i noSession .base + getD (b .sessions) i noSession .len - getD (b .sessions) i noSession .base ≤ 32768) × (b .s ≤ 32768) × (b .s ≤ getD (b .sessions) i noSession .base) × (getD (b .sessions) i noSession .base ≤ getD (b .sessions) i noSession .base + getD (b .sessions) i noSession .len) × (getD (b .sessions) i noSession .base + getD (b .sessions) i noSession .len ≤ length m)))
+  pub asked : (code : List ℕ) → code ≡ codeOf store (slotOf (b .slots) (getD (b .sessions) i noSession)) → (judged code ≡ passed) × ((cpuOk code (getD (b .sessions) i noSession .base + getD (b .sessions) i noSession .len - getD (b .sessions) i noSession .base) (getD (b .sessions) i noSession .cpu) ≡ true) × ((getD (b .sessions) i noSession .base + getD (b .sessions) i noSession .len - getD (b .sessions) i noSession .base ≤ 32768) × (b .s ≤ 32768) × (b .s ≤ getD (b .sessions) i noSession .base) × (getD (b .sessions) i noSession .base ≤ getD (b .sessions) i noSession .base + getD (b .sessions) i noSession .len) × (getD (b .sessions) i noSession .base + getD (b .sessions) i noSession .len ≤ length m)))
   asked code e =
       let f = session in
       let l : getD (b .sessions) i noSession .base + getD (b .sessions) i noSession .len - getD (b .sessions) i noSession .base ≡ getD (b .sessions) i noSession .len = omega arith in
@@ -59,12 +60,12 @@ module _ (store m : List ℕ) (b : Bench) (i : ℕ) (h : soundB b m store ≡ tr
 module _ (store m : List ℕ) (b : Bench) (i k : ℕ) (r : Out) (e : r .bench ≡ b) where
   pub not-sound : r .answer ≡ Refused 11 0 → soundB b m store ≡ false → resultOf r m ≡ turnOf store i k (worldOf b m)
   unfolding turnOf
-  not-sound a h = refuses m b r e [] (check 11 (soundB b m store)) _ _ a tt h
+  not-sound a h = refuses m b r e [] 11 (soundB b m store) _ _ a tt h
 
   module _ (h : soundB b m store ≡ true) where
     not-open : r .answer ≡ Refused 12 0 → openAt (worldOf b m) i ≡ false → resultOf r m ≡ turnOf store i k (worldOf b m)
     unfolding turnOf
-    not-open a f = refuses m b r e (check 11 (soundB b m store) ∷ []) (check 12 (openAt (worldOf b m) i)) _ _ a (h, tt) f
+    not-open a f = refuses m b r e (check 11 0 (soundB b m store) ∷ []) 12 (openAt (worldOf b m) i) _ _ a (h, tt) f
 
     pub no-record : r .answer ≡ Refused 12 0 → 15 < i → resultOf r m ≡ turnOf store i k (worldOf b m)
     no-record a g = not-open a (rw (lt-leb i 15 g))
@@ -75,4 +76,4 @@ module _ (store m : List ℕ) (b : Bench) (i k : ℕ) (r : Out) (e : r .bench �
     pub too-many : r .answer ≡ Refused 16 0 → i ≤ 15 → getD (b .sessions) i noSession .used ≡ true → 65535 < k → resultOf r m ≡ turnOf store i k (worldOf b m)
     unfolding turnOf
     too-many a g u q =
-        refuses m b r e (check 11 (soundB b m store) ∷ check 12 (openAt (worldOf b m) i) ∷ []) (check 16 (leb k 65535)) _ _ a (h, (rw (le-leb i 15 g) u, tt)) (lt-leb k 65535 q)
+        refuses m b r e (check 11 0 (soundB b m store) ∷ check 12 0 (openAt (worldOf b m) i) ∷ []) 16 (leb k 65535) _ _ a (h, (rw (le-leb i 15 g) u, tt)) (lt-leb k 65535 q)

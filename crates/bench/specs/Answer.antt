@@ -1,10 +1,9 @@
 -- Answers and refusals. "A refusal returns its number and a place (the routine number for 6 to 8, else 0). Bench, store, memory and output
 -- are then unchanged."
 -- Above: Entries. Below: sound's World.
-use mathlib.Core.List.{List, [], _∷_}
-use mathlib.Core.Bool.{Bool, cond}
+use mathlib.Core.List.{List}
 use Prim.Native.Nat.{ℕ}
-use Rattle.sound.specs.Below.{Verdict, Accepted, Rejected}
+use Rattle.basis.specs.Checks.{Check, Ruling, passed, refused, ruling}
 use Rattle.sound.specs.Bench.{World, worldOf}
 use Rattle.bench.specs.declared.Out.{Out}
 use Rattle.bench.specs.declared.Answer.{Answer}
@@ -38,23 +37,10 @@ done v w = record { answer = Done v; world = w }
 abbrev pub refusedAt : ℕ → ℕ → World → Result
 refusedAt n p w = record { answer = Refused n p; world = w }
 
-abbrev pub refused : ℕ → World → Result
-refused n w = refusedAt n 0 w
+-- what a ruling of checks comes to: the refusal with its number and place; where every check passes, this
+abbrev pub ruled : Ruling → World → Result → Result
+ruled passed w x = x
+ruled (refused n p) w x = refusedAt n p w
 
--- a line of the refusal table: its number, and whether the request passes
-pub record Check : Type 0 where
-  pub number : ℕ
-  pub passes : Bool
-
-abbrev pub check : ℕ → Bool → Check
-check n b = record { number = n; passes = b }
-
--- the checks in their order: the first that fails is the refusal; where none does, this
 unfoldable pub refusing : List Check → World → Result → Result
-refusing [] w x = x
-refusing (c ∷ cs) w x = cond (c .passes) (refusing cs w x) (refused (c .number) w)
-
--- the verdict of checks 1 to 8 on a segment, with its number and place; where it is accepted, this
-abbrev pub judging : Verdict → World → Result → Result
-judging Accepted w x = x
-judging (Rejected n p) w x = refusedAt n p w
+refusing cs w x = ruled (ruling cs) w x

@@ -6,8 +6,9 @@ use Prim.Native.Nat.{ℕ, zero, suc, _+_, _-_, _%_}
 use lib.Dec.{leb, eqb}
 use lib.ListN.{length, getD, set, replicate}
 use Rattle.basis.specs.Bools.{every}
+use Rattle.basis.specs.Checks.{check}
 use Rattle.basis.specs.Part.{splice}
-use Rattle.sound.specs.Below.{State, Cpu, cpuOf, judged, floorOf, startOf, runOf, countOf}
+use Rattle.sound.specs.Below.{State, Cpu, cpuOf, checks, floorOf, startOf, runOf, countOf}
 use Rattle.sound.specs.Bench.{noSlot, noSession, codeOf, slotAt, World, worldOf, sessionAt, sharedOf, codeAt, stateAt, at-cpu, at-sessions, at-slots}
 use Rattle.sound.specs.Sound.{all, limitsOk, soundB}
 use Rattle.sound.specs.declared.Slot.{Slot}
@@ -17,7 +18,7 @@ use Rattle.bench.specs.declared.Out.{Out}
 use Rattle.bench.specs.declared.Gap.{Gap}
 use Rattle.bench.specs.declared.Gap.the-variants.{At, Full}
 use Rattle.bench.specs.declared.Answer.the-variants.{Done, Refused}
-use Rattle.bench.specs.Answer.{Result, done, refused, check, refusing, judging}
+use Rattle.bench.specs.Answer.{Result, done, refusing}
 
 -- 11: "bench not sound for the lent memory and store"
 abbrev pub isSound : List ℕ → World → Bool
@@ -51,9 +52,13 @@ rangeOk store start len = eqb (start % 2) 0 && leb (start + len) (length store)
 
 unfoldable pub loadOf : List ℕ → ℕ → ℕ → ℕ → World → Result
 loadOf store slot start len w =
-    refusing (check 11 (isSound store w) ∷ check 12 (freeSlot w slot) ∷ check 17 (rangeOk store start len) ∷ []) w
-    (judging (judged (codeOf store (loadedSlot start len))) w
-    (done 0 (worldOf (at-slots (w .bench) (set (w .bench .slots) slot (loadedSlot start len))) (w .mem))))
+    refusing
+    (check 11 0 (isSound store w)
+    ∷ check 12 0 (freeSlot w slot)
+    ∷ check 17 0 (rangeOk store start len)
+    ∷ checks (codeOf store (loadedSlot start len)))
+    w
+    (done 0 (worldOf (at-slots (w .bench) (set (w .bench .slots) slot (loadedSlot start len))) (w .mem)))
 
 -- ---- opening: 11, 12, 13, 14, 15
 
@@ -122,11 +127,11 @@ opens slot len c i a w = done i (cleared i (fresh slot a len c) a (a + len) w)
 unfoldable pub openOf : List ℕ → ℕ → ℕ → World → Result
 openOf store slot len w =
     refusing
-    (check 11 (isSound store w)
-    ∷ check 12 (loadedAt w slot)
-    ∷ check 13 (lenOk (codeOf store (slotAt (w .bench .slots) slot)) len)
-    ∷ check 14 (leb (recordFor w) 15)
-    ∷ check 15 (found (gapFor w len))
+    (check 11 0 (isSound store w)
+    ∷ check 12 0 (loadedAt w slot)
+    ∷ check 13 0 (lenOk (codeOf store (slotAt (w .bench .slots) slot)) len)
+    ∷ check 14 0 (leb (recordFor w) 15)
+    ∷ check 15 0 (found (gapFor w len))
     ∷ [])
     w
     (opens slot len (startOf (codeOf store (slotAt (w .bench .slots) slot)) len) (recordFor w) (placeIn (gapFor w len)) w)
@@ -153,7 +158,7 @@ put i st w =
 -- 16: "a turn of more than 65,535 steps"
 unfoldable pub turnOf : List ℕ → ℕ → ℕ → World → Result
 turnOf store i k w =
-    refusing (check 11 (isSound store w) ∷ check 12 (openAt w i) ∷ check 16 (leb k 65535) ∷ []) w
+    refusing (check 11 0 (isSound store w) ∷ check 12 0 (openAt w i) ∷ check 16 0 (leb k 65535) ∷ []) w
     (done (doneOf store i k w) (put i (ranOf store i k w) w))
 
 -- ---- closing: 11, 12
@@ -161,5 +166,5 @@ turnOf store i k w =
 -- "Closing zeroes the region and frees region and record."
 unfoldable pub closeOf : List ℕ → ℕ → World → Result
 closeOf store i w =
-    refusing (check 11 (isSound store w) ∷ check 12 (openAt w i) ∷ []) w
+    refusing (check 11 0 (isSound store w) ∷ check 12 0 (openAt w i) ∷ []) w
     (done 0 (cleared i noSession (sessionAt w i .base) (sessionAt w i .base + sessionAt w i .len) w))

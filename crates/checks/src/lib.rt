@@ -10,11 +10,12 @@ ghost use Prim.Native.Nat.{_+_, _<_};
 ghost use lib.Dec.{ltb, eqb};
 ghost use Rattle.basis.specs.Bools.{inside};
 ghost use Rattle.segment.specs.Head.{words, least, dict, count, shapeOk, sexOk};
-ghost use Rattle.segment.specs.Judge.{headChecks, routineChecks, routinesFrom, verdict, passes, judged, accepted};
+ghost use Rattle.basis.specs.Checks.{passed, refused, isPassed, ruling, passes};
+ghost use Rattle.segment.specs.Judge.{headChecks, routineChecks, routinesFrom, judged, rulingOf};
 
 // The verdict of a check, before those of the later ones.
 fn checked(ok: bool, number: u8, place: u16, later: Verdict) -> Verdict
-    ensures { λ r. ⌜ r ≡ cond ok later (Verdict.Refused number place) ⌝ }
+    ensures { λ r. ⌜ rulingOf r ≡ cond ok (rulingOf later) (refused number place) ⌝ }
 {
     if ok {
         return later;
@@ -59,7 +60,7 @@ fn dict_ok(w: usize, d: u16, n: u16) -> bool
 
 // Checks 1 to 5, the last first: each takes the verdict of those after it.
 fn judge_head(seg: &[u8]) -> Verdict
-    ensures { λ r. ⌜ r ≡ verdict (headChecks (now (seg .entry))) ⌝ }
+    ensures { λ r. ⌜ rulingOf r ≡ ruling (headChecks (now (seg .entry))) ⌝ }
 {
     let h = segment::head(seg);
     let v5 = checked(dict_ok(h.words, h.dict, h.count), 5, 0, Verdict::Accepted);
@@ -71,7 +72,7 @@ fn judge_head(seg: &[u8]) -> Verdict
 
 // Checks 6 to 8 of routine k.
 fn judge_routine(seg: &[u8], k: u16) -> Verdict
-    ensures { λ r. ⌜ r ≡ verdict (routineChecks (now (seg .entry)) k) ⌝ }
+    ensures { λ r. ⌜ rulingOf r ≡ ruling (routineChecks (now (seg .entry)) k) ⌝ }
 {
     let r = segment::routine_of(seg, k);
     let w = seg.len() / 2;
@@ -108,8 +109,8 @@ fn routine_passes(seg: &[u8], sex: bool, w: usize, d: usize, k: usize) -> bool
 // Checks 6 to 8 of every routine, the lowest number first, of a segment that passed checks 1 to 5.
 // A refusal's number and place are looked for only once there is one.
 fn judge_routines(seg: &[u8]) -> Verdict
-    requires { ⌜ verdict (headChecks (now seg)) ≡ Verdict.Accepted ⌝ }
-    ensures { λ r. ⌜ r ≡ verdict (routinesFrom (now (seg .entry)) (count (now (seg .entry))) 1) ⌝ }
+    requires { ⌜ ruling (headChecks (now seg)) ≡ passed ⌝ }
+    ensures { λ r. ⌜ rulingOf r ≡ ruling (routinesFrom (now (seg .entry)) (count (now (seg .entry))) 1) ⌝ }
 {
     let h = segment::head(seg);
     let d = h.dict as usize;
@@ -125,7 +126,7 @@ fn judge_routines(seg: &[u8]) -> Verdict
 }
 
 pub fn judge(seg: &[u8]) -> Verdict
-    ensures { λ r. ⌜ r ≡ judged (now (seg .entry)) ⌝ }
+    ensures { λ r. ⌜ rulingOf r ≡ judged (now (seg .entry)) ⌝ }
 {
     let v = judge_head(seg);
     match v {
@@ -139,7 +140,7 @@ pub fn judge(seg: &[u8]) -> Verdict
 
 // Whether a segment passes checks 1 to 8.
 pub fn accepts(seg: &[u8]) -> bool
-    ensures { λ r. ⌜ r ≡ accepted (judged (now (seg .entry))) ⌝ }
+    ensures { λ r. ⌜ r ≡ isPassed (judged (now (seg .entry))) ⌝ }
 {
     let v = judge(seg);
     match v {

@@ -6,11 +6,11 @@ use mathlib.Core.Logic.{⊎-elim}
 use mathlib.Core.List.{List}
 use Rattle.segment.specs.Head.{words, pool}
 use Rattle.segment.specs.Judge.{judged}
-use Rattle.segment.specs.declared.Verdict.the-variants.{Accepted}
+use Rattle.basis.specs.Checks.{passed}
 use Rattle.segment.proofs.Laws.{all-good}
 use Rattle.pmachine.specs.Sound.{Loaded}
 
-pub loaded : (s : List ℕ) → judged s ≡ Accepted → Loaded s
+pub loaded : (s : List ℕ) → judged s ≡ passed → Loaded s
 loaded s h =
     let g = all-good s h in
     let a = g .header in

@@ -3,17 +3,17 @@
 use mathlib.Core.Path.{_≡_, refl}
 use mathlib.Core.List.{_∷_}
 use Rattle.basis.specs.Bools.{inside}
+use Rattle.basis.specs.Checks.{passed, refused, ruling}
 use Rattle.operand.specs.Bytes.{wordBy}
 use Rattle.segment.specs.Head.{least, word, dict, reloc, pool, count, entry, datasize, exitic, sexBytes}
-use Rattle.segment.specs.Judge.{headChecks, routineChecks, routinesFrom, checks, verdict, judged}
+use Rattle.segment.specs.Judge.{headChecks, routineChecks, routinesFrom, checks, judged}
 use Rattle.segment.specs.Small.{small, smallTurned}
-use Rattle.segment.specs.declared.Verdict.the-variants.{Accepted, Refused}
 
 pub record Judgements : Type 0 where
-  pub ours : judged small ≡ Accepted
-  pub theirs : judged smallTurned ≡ Accepted
-  pub odd : judged (0 ∷ small) ≡ Refused 1 0
+  pub ours : judged small ≡ passed
+  pub theirs : judged smallTurned ≡ passed
+  pub odd : judged (0 ∷ small) ≡ refused 1 0
 
 pub judgements : Judgements
-unfolding small smallTurned wordBy inside least word dict reloc pool count entry datasize exitic sexBytes headChecks routineChecks routinesFrom checks verdict judged
+unfolding small smallTurned wordBy inside least word dict reloc pool count entry datasize exitic sexBytes headChecks routineChecks routinesFrom checks ruling judged
 judgements = record { ours = refl; theirs = refl; odd = refl }

@@ -1,5 +1,5 @@
 -- What an accepted segment tells of its numbers, and the steps of the loop over the routines.
--- Below: the theorems on verdicts. Above: turning, the machine and the bench. Assumes nothing.
+-- Below: the theorems on rulings in `basis`. Above: turning, the machine and the bench. Assumes nothing.
 use Prim.Native.Nat.{ℕ, zero, suc, _+_, _-_, _*_, _%_, _≤_, _<_}
 use native.Mathlib.Omega.{arith}
 use native.Mathlib.Nat.{eq-or-lt-of-le}
@@ -14,9 +14,9 @@ use Rattle.basis.specs.Bools.{inside}
 use Rattle.basis.proofs.Bools.{both-true, inside-true, or-cases}
 use Rattle.operand.specs.Bytes.{wordBy}
 use Rattle.segment.specs.Head.{words, least, word, dict, reloc, pool, count, entry, datasize, exitic, shapeOk, sexOk, relocOk, poolOk, dictOk}
-use Rattle.segment.specs.Judge.{headChecks, routineChecks, routinesFrom, checks, verdict, passes, judged, follow}
-use Rattle.segment.specs.declared.Verdict.the-variants.{Accepted}
-use Rattle.segment.proofs.Verdicts.{verdict-append, pass-all, stops, needed, followed, followed-by}
+use Rattle.basis.specs.Checks.{passed, ruling, passes, followedBy}
+use Rattle.basis.proofs.Checks.{ruling-append, pass-all, stops, needed, followed, followed-by}
+use Rattle.segment.specs.Judge.{headChecks, routineChecks, routinesFrom, checks, judged}
 
 -- ---- what checks 1 to 5 tell
 
@@ -63,8 +63,8 @@ headed s h x r o d =
       room = k;
     }
 
-pub head-good : (s : List ℕ) → verdict (headChecks s) ≡ Accepted → Header s
-unfolding verdict headChecks
+pub head-good : (s : List ℕ) → ruling (headChecks s) ≡ passed → Header s
+unfolding ruling headChecks
 head-good s h =
     let a = needed _ _ _ _ h in
     let b = needed _ _ _ _ (a .1) in
@@ -76,16 +76,16 @@ head-good s h =
 -- ---- the loop over the routines: with k of n judged, one turn
 
 module _ (s : List ℕ) where
-  routines-more : (n k : ℕ) → k < n → verdict (routinesFrom s (n - k) (k + 1)) ≡ follow (verdict (routineChecks s (k + 1))) (verdict (routinesFrom s (n - (k + 1)) (k + 1 + 1)))
+  routines-more : (n k : ℕ) → k < n → ruling (routinesFrom s (n - k) (k + 1)) ≡ followedBy (ruling (routineChecks s (k + 1))) (ruling (routinesFrom s (n - (k + 1)) (k + 1 + 1)))
   unfolding routinesFrom
   routines-more n k l =
       let e : n - k ≡ suc (n - (k + 1)) = omega arith in
-      rw e (verdict-append (routineChecks s (k + 1)) (routinesFrom s (n - (k + 1)) (k + 1 + 1)))
+      rw e (ruling-append (routineChecks s (k + 1)) (routinesFrom s (n - (k + 1)) (k + 1 + 1)))
 
-  pub judge-stop : (n k : ℕ) → k < n → passes (routineChecks s (k + 1)) ≡ false → verdict (routinesFrom s (n - k) (k + 1)) ≡ verdict (routineChecks s (k + 1))
+  pub judge-stop : (n k : ℕ) → k < n → passes (routineChecks s (k + 1)) ≡ false → ruling (routinesFrom s (n - k) (k + 1)) ≡ ruling (routineChecks s (k + 1))
   judge-stop n k l h = routines-more n k l ∙ stops (routineChecks s (k + 1)) _ h
 
-  pub judge-step : (n k : ℕ) → k < n → passes (routineChecks s (k + 1)) ≡ true → verdict (routinesFrom s (n - k) (k + 1)) ≡ verdict (routinesFrom s (n - (k + 1)) (k + 1 + 1))
+  pub judge-step : (n k : ℕ) → k < n → passes (routineChecks s (k + 1)) ≡ true → ruling (routinesFrom s (n - k) (k + 1)) ≡ ruling (routinesFrom s (n - (k + 1)) (k + 1 + 1))
   judge-step n k l h = routines-more n k l ∙ followed-by _ _ (pass-all (routineChecks s (k + 1)) h)
 
   -- the test of routine k, made of numbers in hand: the sex, W, D and the entry
@@ -94,8 +94,8 @@ module _ (s : List ℕ) where
   unfolding passes routineChecks entry datasize exitic word
   passes-by b w d k e hb hw hd he = rw (he, hd, hw, hb) (simp and-true)
 
-  pub judge-done : (n k : ℕ) → n ≤ k → verdict (routinesFrom s (n - k) (k + 1)) ≡ Accepted
-  unfolding verdict routinesFrom
+  pub judge-done : (n k : ℕ) → n ≤ k → ruling (routinesFrom s (n - k) (k + 1)) ≡ passed
+  unfolding ruling routinesFrom
   judge-done n k l =
       let e : n - k ≡ 0 = omega arith in
       rw e refl
@@ -109,8 +109,8 @@ pub record GoodRoutine (s : List ℕ) (k : ℕ) : Type 0 where
   pub exit-low : 22 ≤ exitic s k
   pub exit-high : exitic s k < 2 * words s
 
-pub routine-facts : (s : List ℕ) (k : ℕ) → verdict (routineChecks s k) ≡ Accepted → GoodRoutine s k
-unfolding verdict routineChecks
+pub routine-facts : (s : List ℕ) (k : ℕ) → ruling (routineChecks s k) ≡ passed → GoodRoutine s k
+unfolding ruling routineChecks
 routine-facts s k h =
     let a = needed _ _ _ _ h in
     let b = needed _ _ _ _ (a .1) in
@@ -125,15 +125,15 @@ routine-facts s k h =
       exit-high = i .1;
     }
 
-pub routine-at : (s : List ℕ) (n j : ℕ) → verdict (routinesFrom s n j) ≡ Accepted → (k : ℕ) → j ≤ k → k < j + n → verdict (routineChecks s k) ≡ Accepted
+pub routine-at : (s : List ℕ) (n j : ℕ) → ruling (routinesFrom s n j) ≡ passed → (k : ℕ) → j ≤ k → k < j + n → ruling (routineChecks s k) ≡ passed
 unfolding routinesFrom
 routine-at s zero j h k l r =
     let f : ⊥ = omega arith in
     absurd f
 routine-at s (suc n) j h k l r =
-    let a = followed _ _ (sym (verdict-append (routineChecks s j) (routinesFrom s n (j + 1))) ∙ h) in
+    let a = followed _ _ (sym (ruling-append (routineChecks s j) (routinesFrom s n (j + 1))) ∙ h) in
     ⊎-elim
-    (λ (e : j ≡ k). subst (λ (i : ℕ). verdict (routineChecks s i) ≡ Accepted) e (a .0))
+    (λ (e : j ≡ k). subst (λ (i : ℕ). ruling (routineChecks s i) ≡ passed) e (a .0))
     (λ (m : j < k). routine-at s n (j + 1) (a .1) k (omega arith) (omega arith))
     (eq-or-lt-of-le l)
 
@@ -144,15 +144,15 @@ pub record Good (s : List ℕ) : Type 0 where
   pub routines : (k : ℕ) → 1 ≤ k → k ≤ count s → GoodRoutine s k
 
 -- checks 1 to 5, and those of the routines
-pub judged-is : (s : List ℕ) → judged s ≡ follow (verdict (headChecks s)) (verdict (routinesFrom s (count s) 1))
+pub judged-is : (s : List ℕ) → judged s ≡ followedBy (ruling (headChecks s)) (ruling (routinesFrom s (count s) 1))
 unfolding judged checks
-judged-is s = verdict-append (headChecks s) (routinesFrom s (count s) 1)
+judged-is s = ruling-append (headChecks s) (routinesFrom s (count s) 1)
 
-pub judged-parts : (s : List ℕ) → judged s ≡ Accepted → (verdict (headChecks s) ≡ Accepted) × (verdict (routinesFrom s (count s) 1) ≡ Accepted)
+pub judged-parts : (s : List ℕ) → judged s ≡ passed → (ruling (headChecks s) ≡ passed) × (ruling (routinesFrom s (count s) 1) ≡ passed)
 judged-parts s h = followed _ _ (sym (judged-is s) ∙ h)
 
-pub all-routines : (s : List ℕ) → judged s ≡ Accepted → (k : ℕ) → 1 ≤ k → k ≤ count s → GoodRoutine s k
+pub all-routines : (s : List ℕ) → judged s ≡ passed → (k : ℕ) → 1 ≤ k → k ≤ count s → GoodRoutine s k
 all-routines s h k l m = routine-facts s k (routine-at s (count s) 1 (judged-parts s h .1) k l (omega arith))
 
-pub all-good : (s : List ℕ) → judged s ≡ Accepted → Good s
+pub all-good : (s : List ℕ) → judged s ≡ passed → Good s
 all-good s h = record { header = head-good s (judged-parts s h .0); routines = all-routines s h }

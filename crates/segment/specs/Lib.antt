@@ -1,5 +1,4 @@
 -- What a reader of this crate must believe: its definitions and statements, a module each.
 pub mod Head
 pub mod Judge
-pub mod Judging
 pub mod Small

@@ -6,7 +6,7 @@ use mathlib.Core.Bool.{true}
 use Prim.Native.Nat.{ℕ, _+_, _≤_}
 use lib.ListN.{length}
 use Rattle.segment.specs.Judge.{judged}
-use Rattle.segment.specs.declared.Verdict.the-variants.{Accepted}
+use Rattle.basis.specs.Checks.{passed}
 use Rattle.pmachine.specs.State.{Kind as Kinds, ready, finished, faulted, State as Machine}
 use Rattle.pmachine.specs.Sound.{inRange, starting}
 use Rattle.pmachine.specs.Run.{run, count}
@@ -44,7 +44,7 @@ unfolding runOf
 run-length k code shared st = machine-length code shared k (stateOf st)
 
 -- and the registers and kind in their ranges
-pub run-keeps : (k : ℕ) (code shared : List ℕ) (len : ℕ) (st : State) → judged code ≡ Accepted → len ≤ 32768 → length (st .words) ≡ len → cpuOk code len (st .cpu) ≡ true
+pub run-keeps : (k : ℕ) (code shared : List ℕ) (len : ℕ) (st : State) → judged code ≡ passed → len ≤ 32768 → length (st .words) ≡ len → cpuOk code len (st .cpu) ≡ true
     → cpuOk code len (runOf k code shared st .cpu) ≡ true
 unfolding cpuOk runOf
 run-keeps k code shared len st j small l h =
@@ -74,6 +74,6 @@ unfolding countOf
 count-none code shared st = machine-count-none code shared (stateOf st)
 
 -- the registers at the start are in their ranges
-pub start-ok : (code : List ℕ) (len : ℕ) → judged code ≡ Accepted → 16 ≤ len → floorOf code ≤ len → cpuOk code len (startOf code len) ≡ true
+pub start-ok : (code : List ℕ) (len : ℕ) → judged code ≡ passed → 16 ≤ len → floorOf code ≤ len → cpuOk code len (startOf code len) ≡ true
 unfolding cpuOk startOf
 start-ok code len j h f = in-range code len (starting code len) ready (starting-ranged code len (loaded code j) f) tt

@@ -6,7 +6,7 @@ use mathlib.Core.Bool.{true}
 use Prim.Native.Nat.{ℕ, _-_, _≤_}
 use lib.ListN.{length, take}
 use Rattle.segment.specs.Judge.{judged}
-use Rattle.segment.specs.declared.Verdict.the-variants.{Accepted}
+use Rattle.basis.specs.Checks.{passed}
 use Rattle.pmachine.specs.Sound.{Loaded, Ranged}
 use Rattle.pmachine.specs.State.{State as Machine}
 use Rattle.pmachine.proofs.Accepted.{loaded}
@@ -19,7 +19,7 @@ use Rattle.session.specs.Session.{cpuFrom, kindFrom, cpuOk, runOf, count
 use Rattle.session.proofs.Keeps.{kind-from-of}
 
 -- what the machine asks, of a sound session
-pub asked : (code : List ℕ) (n s base e : ℕ) (c : Cpu) → judged code ≡ Accepted → cpuOk code (e - base) c ≡ true → e - base ≤ 32768 → s ≤ 32768 → s ≤ base → base ≤ e → e ≤ n
+pub asked : (code : List ℕ) (n s base e : ℕ) (c : Cpu) → judged code ≡ passed → cpuOk code (e - base) c ≡ true → e - base ≤ 32768 → s ≤ 32768 → s ≤ base → base ≤ e → e ≤ n
     → Placed n base e s × (Loaded code × Ranged code (e - base) (regsOf (c .regs)))
 unfolding cpuOk
 asked code n s base e c j h small few o₁ o₂ o₃ = (

@@ -12,7 +12,7 @@ ghost use mathlib.Core.Bool.{true};
 ghost use Prim.Native.Nat.{_-_, _≤_};
 ghost use lib.ListN.{length};
 ghost use Rattle.segment.specs.Judge.{judged};
-ghost use Rattle.segment.specs.declared.Verdict.the-variants.{Accepted};
+ghost use Rattle.basis.specs.Checks.{passed};
 ghost use Rattle.session.specs.Session.{noCpu, startOf, kindOk, cpuOk, RanTo};
 
 // The registers of a record that is not used.
@@ -91,7 +91,7 @@ pub fn run(
     cpu: Cpu,
     k: usize,
 ) -> Turned
-    requires { ⌜ judged (now code) ≡ Accepted ⌝ }
+    requires { ⌜ judged (now code) ≡ passed ⌝ }
     requires { ⌜ cpuOk (now code) (end - base) cpu ≡ true ⌝ }
     requires { ⌜ (end - base ≤ 32768) × (s ≤ 32768) × (s ≤ base) × (base ≤ end) × (end ≤ length (now memory)) ⌝ }
     ensures { λ r. ⌜ RanTo (now (code .entry)) (now (memory .entry)) s base end k cpu r (now (memory .exit)) ⌝ }

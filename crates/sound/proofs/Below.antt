@@ -6,7 +6,6 @@ use Prim.Native.Nat.{ℕ, _≤_}
 use Rattle.sound.specs.Below.{State, Cpu, stateOf, cpuOf, countOf}
 use Rattle.session.specs.Session.{stateOf as machineOf}
 use Rattle.pmachine.proofs.Runs.{count-most as machine-most}
-pub use Rattle.segment.proofs.Verdicts.{accepted-is, is-accepted}
 pub use Rattle.session.proofs.Keeps.{run-keeps, run-length, run-none, run-add, count-none, count-add, start-ok}
 
 -- a state is its words and its registers and kind, and they are the state

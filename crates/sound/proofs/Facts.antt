@@ -11,13 +11,14 @@ use lib.ListN.{length, getD, set, length-set, List·getD-eq-default}
 use borrow.Author.Tests.{leb-true, eqb-true, le-leb}
 use Rattle.basis.specs.Bools.{every, Holds}
 use Rattle.basis.proofs.Bools.{every-holds, holds-every, or-cases}
-use Rattle.sound.specs.Below.{judged, accepted, Accepted, Cpu, cpuOk}
+use Rattle.sound.specs.Below.{judged, Cpu, cpuOk}
 use Rattle.sound.specs.Bench.{codeOf, slotAt, slotOf, noSlot, noSession, World, sessionAt, codeAt, at-cpu, at-sessions}
 use Rattle.sound.specs.Sound.{all, limitsOk, slotOk, placed, apart, allApart, sessionOk, soundB, Sound}
 use Rattle.sound.specs.declared.Slot.{Slot}
 use Rattle.sound.specs.declared.Session.{Session}
 use Rattle.sound.specs.declared.Bench.{Bench}
-use Rattle.sound.proofs.Below.{accepted-is}
+use Rattle.basis.specs.Checks.{passed}
+use Rattle.basis.proofs.Checks.{passed-is}
 use Rattle.sound.proofs.Lists.{all-at, all-set, apart-at, apart-set}
 
 -- the test taken apart
@@ -67,7 +68,7 @@ pub record Opened (store : List ℕ) (w : World) (se : Session) : Type 0 where
   pub inside : se .base + se .len ≤ length (w .mem)
   pub least : 16 ≤ se .len
   pub most : se .len ≤ 32768
-  pub checked : judged (codeOf store (slotOf (w .bench .slots) se)) ≡ Accepted
+  pub checked : judged (codeOf store (slotOf (w .bench .slots) se)) ≡ passed
   pub cpu-ok : cpuOk (codeOf store (slotOf (w .bench .slots) se)) (se .len) (se .cpu) ≡ true
 
 module _ (store : List ℕ) (w : World) (g : Sound store w) where
@@ -98,16 +99,16 @@ module _ (store : List ℕ) (w : World) (g : Sound store w) where
   pub used-in : (i : ℕ) → sessionAt w i .used ≡ true → i < length (w .bench .sessions)
   used-in i u = rw (g .sixteen) (used-below i u)
 
-  slot-by : (j : ℕ) → Dec (j < length (w .bench .slots)) → slotAt (w .bench .slots) j .loaded ≡ true → judged (codeOf store (slotAt (w .bench .slots) j)) ≡ Accepted
+  slot-by : (j : ℕ) → Dec (j < length (w .bench .slots)) → slotAt (w .bench .slots) j .loaded ≡ true → judged (codeOf store (slotAt (w .bench .slots) j)) ≡ passed
   unfolding slotOk
   slot-by j (yes o) h =
       let q = all-at (slotOk store) (w .bench .slots) j noSlot (parts .slots) o in
-      accepted-is _ (every-holds _ (rw h at q) .1 .0)
+      passed-is _ (every-holds _ (rw h at q) .1 .0)
   slot-by j (no o) h =
       absurd (false≢true (sym (ap (λ (sl : Slot). sl .loaded) (List·getD-eq-default (w .bench .slots) noSlot {n = j} (omega arith))) ∙ h))
 
   -- a loaded slot's bytes pass the checks
-  pub slot-good : (j : ℕ) → slotAt (w .bench .slots) j .loaded ≡ true → judged (codeOf store (slotAt (w .bench .slots) j)) ≡ Accepted
+  pub slot-good : (j : ℕ) → slotAt (w .bench .slots) j .loaded ≡ true → judged (codeOf store (slotAt (w .bench .slots) j)) ≡ passed
   slot-good j h = slot-by j (decLt j (length (w .bench .slots))) h
 
   pub opened : (i : ℕ) → sessionAt w i .used ≡ true → Opened store w (sessionAt w i)

@@ -8,12 +8,9 @@ use Rattle.machine.specs.declared.Cpu.{Cpu}
 pub use Rattle.session.specs.Session.{State}
 pub use Rattle.machine.specs.declared.Cpu.{Cpu}
 pub use Rattle.machine.specs.declared.Turned.{Turned}
-pub use Rattle.segment.specs.declared.Verdict.{Verdict}
-pub use Rattle.segment.specs.declared.Verdict.the-variants.{Accepted, Refused as Rejected}
 pub use Rattle.segment.specs.declared.Routine.{Routine}
 pub use Rattle.segment.specs.Head.{routineOf}
-pub use Rattle.segment.specs.Judge.{accepted}
-unfoldable pub use Rattle.segment.specs.Judge.{judged}
+unfoldable pub use Rattle.segment.specs.Judge.{checks, judged}
 pub use Rattle.session.specs.Session.{floorOf, noCpu, RanTo}
 unfoldable pub use Rattle.session.specs.Session.{startOf, cpuOk, runOf, countOf}
 

@@ -7,7 +7,8 @@ use Prim.Native.Nat.{ℕ, _+_}
 use lib.Dec.{leb, eqb}
 use lib.ListN.{length}
 use Rattle.basis.specs.Bools.{every}
-use Rattle.sound.specs.Below.{judged, accepted, cpuOk}
+use Rattle.basis.specs.Checks.{isPassed}
+use Rattle.sound.specs.Below.{judged, cpuOk}
 use Rattle.sound.specs.declared.Slot.{Slot}
 use Rattle.sound.specs.declared.Session.{Session}
 use Rattle.sound.specs.declared.Bench.{Bench}
@@ -25,7 +26,7 @@ limitsOk n s = every (leb n 1048576 ∷ leb s 32768 ∷ leb s n ∷ [])
 -- "every loaded slot's range lies in the store and passes checks 1 to 8"
 unfoldable pub slotOk : List ℕ → Slot → Bool
 slotOk store sl =
-    not (sl .loaded) || every (leb (sl .start + sl .len) (length store) ∷ accepted (judged (codeOf store sl)) ∷ [])
+    not (sl .loaded) || every (leb (sl .start + sl .len) (length store) ∷ isPassed (judged (codeOf store sl)) ∷ [])
 
 -- "every open region lies from word S up and inside memory"
 unfoldable pub placed : ℕ → ℕ → Session → Bool

@@ -1,5 +1,5 @@
 -- Word positions: the loops over a range of words and over the routines, that the four writings together write every word position, and the answers.
--- Above: the proofs of the code, and what a segment and its turned one share. Below: words written swapped (Swaps).
+-- Above: the proofs of the code, and what a segment and its turned one share. Below: words outputOf swapped (Swaps).
 -- Assumes nothing.
 use Prim.Native.Nat.{ℕ, zero, suc, _+_, _-_, _*_, _/_, _≤_, _<_}
 use native.Mathlib.Nat.{eq-or-lt-of-le}
@@ -15,11 +15,11 @@ use lib.Dec.{eqb}
 use Rattle.basis.specs.Bools.{inside}
 use Rattle.basis.proofs.Bools.{inside-true, and-both, or-cases}
 use Rattle.segment.specs.Head.{words, dict, count, entry, pool}
-use Rattle.segment.specs.Judge.{checks, verdict, judged, follow}
-use Rattle.segment.specs.declared.Verdict.the-variants.{Accepted, Refused}
-use Rattle.segment.proofs.Verdicts.{verdict-append, needed, followed, followed-by}
+use Rattle.segment.specs.Judge.{checks, judged}
+use Rattle.basis.specs.Checks.{Ruling, passed, refused, ruling, followedBy}
+use Rattle.basis.proofs.Checks.{ruling-append, needed, followed, followed-by}
 use Rattle.segment.proofs.Laws.{all-good, all-routines}
-use Rattle.turning.specs.Turn.{frame, framed, position, swapAt, turned, turnChecks, turnVerdict}
+use Rattle.turning.specs.Turn.{frame, framed, position, swapAt, turned, turnChecks, turnRuling}
 use Rattle.turning.specs.Twin.{Answers}
 use Rattle.turning.proofs.Swaps.{swap-same, swap-none, swap-join, swap-front}
 
@@ -174,7 +174,7 @@ framed-in s w (suc n) top f h =
 
 -- ---- an accepted segment: its word positions lie in it, and the four writings write all of them
 
-module _ (s : List ℕ) (ok : judged s ≡ Accepted) where
+module _ (s : List ℕ) (ok : judged s ≡ passed) where
   pub entry-in : (k : ℕ) → 1 ≤ k → k ≤ count s → (12 ≤ entry s k) × (entry s k < words s)
   entry-in k l r =
       let f = all-routines s ok k l r in
@@ -229,35 +229,35 @@ module _ (s : List ℕ) (ok : judged s ≡ Accepted) where
 -- ---- checks 9 and 10 after checks 1 to 8
 
 module _ (s : List ℕ) (room : ℕ) where
-  verdict-is : turnVerdict s room ≡ follow (judged s) (verdict (turnChecks s room))
-  unfolding turnVerdict judged
-  verdict-is = verdict-append (checks s) (turnChecks s room)
+  ruling-is : turnRuling s room ≡ followedBy (judged s) (ruling (turnChecks s room))
+  unfolding turnRuling judged
+  ruling-is = ruling-append (checks s) (turnChecks s room)
 
-  pub turn-good : turnVerdict s room ≡ Accepted → (judged s ≡ Accepted) × (pool s ≡ 0) × (length s ≤ room)
-  unfolding verdict turnChecks
+  pub turn-good : turnRuling s room ≡ passed → (judged s ≡ passed) × (pool s ≡ 0) × (length s ≤ room)
+  unfolding ruling turnChecks
   turn-good h =
-      let a = followed _ _ (sym verdict-is ∙ h) in
+      let a = followed _ _ (sym ruling-is ∙ h) in
       let b = needed _ _ _ _ (a .1) in
       let d = needed _ _ _ _ (b .1) in
       (a .0, eqb-true _ _ (b .0), leb-true _ _ (d .0))
 
-  pub turn-as-judged : (n p : ℕ) → judged s ≡ Refused n p → turnVerdict s room ≡ Refused n p
-  unfolding follow
-  turn-as-judged n p h = verdict-is ∙ rw h refl
+  pub turn-as-judged : (n p : ℕ) → judged s ≡ refused n p → turnRuling s room ≡ refused n p
+  unfolding followedBy
+  turn-as-judged n p h = ruling-is ∙ rw h refl
 
-  module _ (ok : judged s ≡ Accepted) where
-    pub turn-nine : (pool s ≡ 0 → ⊥) → turnVerdict s room ≡ Refused 9 0
-    unfolding verdict turnChecks
-    turn-nine h = verdict-is ∙ followed-by _ _ ok ∙ rw (ne-eqb (pool s) 0 h) refl
+  module _ (ok : judged s ≡ passed) where
+    pub turn-nine : (pool s ≡ 0 → ⊥) → turnRuling s room ≡ refused 9 0
+    unfolding ruling turnChecks
+    turn-nine h = ruling-is ∙ followed-by _ _ ok ∙ rw (ne-eqb (pool s) 0 h) refl
 
     module _ (none : pool s ≡ 0) where
-      pub turn-ten : room < length s → turnVerdict s room ≡ Refused 10 0
-      unfolding verdict turnChecks
-      turn-ten l = verdict-is ∙ followed-by _ _ ok ∙ rw (eq-eqb (pool s) 0 none, lt-leb (length s) room l) refl
+      pub turn-ten : room < length s → turnRuling s room ≡ refused 10 0
+      unfolding ruling turnChecks
+      turn-ten l = ruling-is ∙ followed-by _ _ ok ∙ rw (eq-eqb (pool s) 0 none, lt-leb (length s) room l) refl
 
-      pub turn-accepts : length s ≤ room → turnVerdict s room ≡ Accepted
-      unfolding verdict turnChecks
-      turn-accepts l = verdict-is ∙ followed-by _ _ ok ∙ rw (eq-eqb (pool s) 0 none, le-leb (length s) room l) refl
+      pub turn-accepts : length s ≤ room → turnRuling s room ≡ passed
+      unfolding ruling turnChecks
+      turn-accepts l = ruling-is ∙ followed-by _ _ ok ∙ rw (eq-eqb (pool s) 0 none, le-leb (length s) room l) refl
 
   pub answers : Answers s room
   answers = record { as-judged = turn-as-judged; nine = turn-nine; ten = turn-ten; accepts = turn-accepts }

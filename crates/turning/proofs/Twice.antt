@@ -1,5 +1,5 @@
 -- A turned segment has the other sex, the same header numbers, routines, word positions and checks, and turned again it is the first one.
--- Above: outputs turned back (Outputs). Below: word positions, and words written swapped. Assumes nothing.
+-- Above: outputs turned back (Outputs). Below: word positions, and words outputOf swapped. Assumes nothing.
 use Prim.Native.Nat.{ℕ, zero, suc, _+_, _-_, _*_, _/_, _%_, _≤_, _<_}
 use native.Mathlib.Decide.{decLe}
 use native.Mathlib.Omega.{arith}
@@ -15,8 +15,8 @@ use Rattle.basis.specs.Bools.{inside}
 use Rattle.basis.proofs.Bools.{both-true, or-cases}
 use Rattle.operand.specs.Bytes.{byteAt, wordBy}
 use Rattle.segment.specs.Head.{words, least, word, dict, reloc, pool, real, count, entry, datasize, exitic, start, sexBytes, sexOk}
-use Rattle.segment.specs.Judge.{headChecks, routineChecks, routinesFrom, checks, verdict, judged}
-use Rattle.segment.specs.declared.Verdict.the-variants.{Accepted}
+use Rattle.segment.specs.Judge.{headChecks, routineChecks, routinesFrom, checks, judged}
+use Rattle.basis.specs.Checks.{passed, ruling}
 use Rattle.segment.proofs.Laws.{Header, all-good}
 use Rattle.turning.specs.Turn.{frame, framed, position, other, swapByte, swapAt, turned}
 use Rattle.turning.specs.Twin.{Once, SameRoutine, Twins}
@@ -92,7 +92,7 @@ mate i n l r =
 
 -- ---- an accepted segment and its turned one
 
-module _ (s : List ℕ) (ok : judged s ≡ Accepted) where
+module _ (s : List ℕ) (ok : judged s ≡ passed) where
   good : Header s
   good = all-good s ok .header
 
@@ -221,7 +221,7 @@ module _ (s : List ℕ) (ok : judged s ≡ Accepted) where
   unfolding position
   same-position w = rw (same-dict, same-count, same-framed (turned s) s w (count s) same-entry) refl
 
-  -- the same checks, so the same verdict
+  -- the same checks, so the same ruling
   same-head : headChecks (turned s) ≡ headChecks s
   unfolding headChecks
   same-head = rw (same-words, length-turned, same-reloc, same-pool, same-dict, same-count, sex-turned .0, good .sexed) refl
@@ -235,9 +235,9 @@ module _ (s : List ℕ) (ok : judged s ≡ Accepted) where
   unfolding checks
   same-checks = rw (same-head, same-count, same-from (turned s) s (count s) 1 same-three) refl
 
-  same-verdict : judged (turned s) ≡ judged s
+  same-ruling : judged (turned s) ≡ judged s
   unfolding judged
-  same-verdict = ap verdict same-checks
+  same-ruling = ap ruling same-checks
 
   -- turned twice, it is the segment
   turned-back : (i : ℕ) → i < length s → (b : Bool) → position s (i / 2) ≡ b → swapByte (position s) (turned s) (turned s) i ≡ byteAt s i
@@ -280,6 +280,6 @@ twins s ok none = record {
   counts = same-count s ok;
   routines = same-routine s ok;
   positions = same-position s ok;
-  verdicts = same-verdict s ok;
+  rulings = same-ruling s ok;
   again = turned-twice s ok;
 }

@@ -9,9 +9,8 @@ use lib.Dec.{leb, eqb}
 use Rattle.basis.specs.Bools.{inside}
 use Rattle.operand.specs.Bytes.{byteAt}
 use Rattle.segment.specs.Head.{dict, count, entry, pool}
-use Rattle.segment.specs.Judge.{Check, check, checks, verdict}
-use Rattle.segment.specs.declared.Verdict.{Verdict}
-use Rattle.segment.specs.declared.Verdict.the-variants.{Accepted, Refused}
+use Rattle.basis.specs.Checks.{Check, check, Ruling, passed, refused, ruling}
+use Rattle.segment.specs.Judge.{checks}
 
 -- w is EXITIC's or DATASIZE's word of an entry e: "e-1 and e"
 unfoldable pub frame : ℕ → ℕ → Bool
@@ -50,11 +49,15 @@ turned s = swapAt (position s) s s
 unfoldable pub turnChecks : List ℕ → ℕ → List Check
 turnChecks s room = check 9 0 (eqb (pool s) 0) ∷ check 10 0 (leb (length s) room) ∷ []
 
--- "Turning 1 to 10": the verdict on turning s into an output of `room` bytes
-unfoldable pub turnVerdict : List ℕ → ℕ → Verdict
-turnVerdict s room = verdict (checks s ++ turnChecks s room)
+-- "Turning 1 to 10": the ruling on turning s into an output of `room` bytes
+unfoldable pub turnRuling : List ℕ → ℕ → Ruling
+turnRuling s room = ruling (checks s ++ turnChecks s room)
 
 -- "Bench, store, memory and output are then unchanged." "Turning writes the first 2W output bytes and no others."
-unfoldable pub turnedInto : Verdict → List ℕ → List ℕ → List ℕ
-turnedInto Accepted s out = turned s ++ drop (length s) out
-turnedInto (Refused n p) s out = out
+unfoldable pub turnedInto : Ruling → List ℕ → List ℕ → List ℕ
+turnedInto passed s out = turned s ++ drop (length s) out
+turnedInto (refused n p) s out = out
+
+-- what an output holds after turning s into it
+unfoldable pub outputOf : List ℕ → List ℕ → List ℕ
+outputOf s out = turnedInto (turnRuling s (length out)) s out

@@ -1,5 +1,5 @@
 // Turning a segment to the other byte sex: its bytes copied, then the two bytes at each word position written swapped.
-// Above: the bench and the comparing of segments. Below: the numbers of a segment, and the verdict of checks 1 to 8.
+// Above: the commands on files. Below: the numbers of a segment, and the verdict of checks 1 to 8.
 use segment::Segment;
 use segment::Verdict;
 ghost use mathlib.Core.Path.{_≡_};
@@ -9,8 +9,9 @@ ghost use lib.Dec.{eqb};
 ghost use lib.ListN.{length, drop};
 ghost use Rattle.basis.specs.Bools.{inside};
 ghost use Rattle.segment.specs.Head.{count};
-ghost use Rattle.segment.specs.Judge.{judged};
-ghost use Rattle.turning.specs.Turn.{framed, swapAt, turned, turnVerdict, turnedInto};
+ghost use Rattle.basis.specs.Checks.{passed, refused};
+ghost use Rattle.segment.specs.Judge.{judged, rulingOf};
+ghost use Rattle.turning.specs.Turn.{framed, swapAt, turned, turnRuling, outputOf};
 
 // Copies the segment to the first bytes of the output.
 fn copy(seg: &[u8], out: &mut [u8])
@@ -49,7 +50,7 @@ fn swap_words(seg: &[u8], out: &mut [u8], first: u32, end: u32)
 
 // EXITIC and DATASIZE of every routine.
 fn swap_frames(seg: &[u8], out: &mut [u8], n: u16)
-    requires { ⌜ (judged (now seg) ≡ Verdict.Accepted) × (length (now seg) ≤ length (now out)) × (n ≡ count (now seg)) ⌝ }
+    requires { ⌜ (judged (now seg) ≡ passed) × (length (now seg) ≤ length (now out)) × (n ≡ count (now seg)) ⌝ }
     ensures { λ _. ⌜ now (out .exit) ≡ swapAt (framed (now (seg .entry)) (count (now (seg .entry)))) (now (seg .entry)) (now (out .entry)) ⌝ }
 {
     let mut k: u16 = 0;
@@ -63,7 +64,7 @@ fn swap_frames(seg: &[u8], out: &mut [u8], n: u16)
 
 // An accepted segment in the other byte sex, in the first bytes of the output.
 fn turn_words(seg: &[u8], out: &mut [u8])
-    requires { ⌜ (judged (now seg) ≡ Verdict.Accepted) × (length (now seg) ≤ length (now out)) ⌝ }
+    requires { ⌜ (judged (now seg) ≡ passed) × (length (now seg) ≤ length (now out)) ⌝ }
     ensures { λ _. ⌜ now (out .exit) ≡ turned (now (seg .entry)) ++ drop (length (now (seg .entry))) (now (out .entry)) ⌝ }
 {
     let h = segment::head(seg);
@@ -77,15 +78,15 @@ fn turn_words(seg: &[u8], out: &mut [u8])
 }
 
 // A refusal with place 0.
-fn refused(number: u8) -> Verdict
-    ensures { λ r. ⌜ r ≡ Verdict.Refused number 0 ⌝ }
+fn refuse(number: u8) -> Verdict
+    ensures { λ r. ⌜ rulingOf r ≡ refused number 0 ⌝ }
 {
     Verdict::Refused { number, place: 0 }
 }
 
 // Checks 1 to 10, for an output of `room` bytes.
 fn judge_turn(seg: &[u8], room: usize) -> Verdict
-    ensures { λ r. ⌜ r ≡ turnVerdict (now (seg .entry)) room ⌝ }
+    ensures { λ r. ⌜ rulingOf r ≡ turnRuling (now (seg .entry)) room ⌝ }
 {
     let v = checks::judge(seg);
     if let Verdict::Refused {
@@ -96,18 +97,18 @@ fn judge_turn(seg: &[u8], room: usize) -> Verdict
     }
     let h = segment::head(seg);
     if h.pool != 0 {
-        return refused(9);
+        return refuse(9);
     }
     if room < seg.len() {
-        return refused(10);
+        return refuse(10);
     }
     Verdict::Accepted
 }
 
 // The segment in the other byte sex, in the first bytes of out; where it is refused, out is unchanged.
 pub fn turn(seg: &[u8], out: &mut [u8]) -> Verdict
-    ensures answer { λ r. ⌜ r ≡ turnVerdict (now (seg .entry)) (length (now (out .entry))) ⌝ }
-    ensures output { λ r. ⌜ now (out .exit) ≡ turnedInto r (now (seg .entry)) (now (out .entry)) ⌝ }
+    ensures answer { λ r. ⌜ rulingOf r ≡ turnRuling (now (seg .entry)) (length (now (out .entry))) ⌝ }
+    ensures output { λ r. ⌜ now (out .exit) ≡ outputOf (now (seg .entry)) (now (out .entry)) ⌝ }
 {
     let v = judge_turn(seg, out.len());
     if let Verdict::Accepted = v {

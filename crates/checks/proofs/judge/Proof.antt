@@ -1,22 +1,30 @@
 -- `checks::judge` meets its contract. Assumes nothing.
-use mathlib.Core.Path.{sym, _∙_}
+use mathlib.Core.Path.{sym, ap, _∙_}
 use borrow.Author.Needs.{needs}
 use denote.Ref.{now}
-use Rattle.segment.specs.Judge.{follow}
+use Rattle.basis.specs.Checks.{followedBy}
+use Rattle.segment.specs.Judge.{rulingOf}
 use Rattle.segment.proofs.Laws.{judged-is}
 use Rattle.checks.proofs.judge.Statement.{statement}
 use Rattle.checks.proofs.judge.Tie as tie
 
 judge-routines-requires : tie.Need-judge-routines-requires
-judge-routines-requires c κs = sym (c .before .before .judge-head .ensures) ∙ c .enum-told .given .1
+judge-routines-requires c κs = sym (c .before .before .judge-head .ensures) ∙ ap rulingOf (c .enum-told .given .1)
 
 returns : tie.Need-returns
-unfolding follow
-returns c = c .judge-routines .ensures ∙ sym (judged-is (now (c .before .before .before .before .before .args .seg)) ∙ simp (sym (c .before .before .before .judge-head .ensures) ∙ c .before .enum-told .given .1))
+unfolding followedBy
+returns c =
+    let told = c .before in
+    let head = told .before .before in
+    c .judge-routines .ensures
+    ∙ sym (judged-is (now (head .before .before .args .seg)) ∙ simp (sym (head .judge-head .ensures) ∙ ap rulingOf (told .enum-told .given .1)))
 
 returns-2 : tie.Need-returns-2
-unfolding follow
-returns-2 c = c .enum-told2 .given .1 ∙ sym (judged-is (now (c .before .before .before .before .args .seg)) ∙ simp (sym (c .before .before .judge-head .ensures) ∙ c .enum-told2 .given .1))
+unfolding followedBy
+returns-2 c =
+    let head = c .before .before in
+    let told = ap rulingOf (c .enum-told2 .given .1) in
+    told ∙ sym (judged-is (now (head .before .before .args .seg)) ∙ simp (sym (head .judge-head .ensures) ∙ told))
 
 pub judge-spec : {M : Type 1} → statement M
 judge-spec =

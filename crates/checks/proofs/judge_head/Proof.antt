@@ -1,11 +1,12 @@
 -- `checks::judge_head` meets its contract. Assumes nothing.
 use borrow.Author.Needs.{needs}
-use Rattle.segment.specs.Judge.{headChecks, verdict}
+use Rattle.basis.specs.Checks.{ruling}
+use Rattle.segment.specs.Judge.{headChecks}
 use Rattle.checks.proofs.judge_head.Statement.{statement}
 use Rattle.checks.proofs.judge_head.Tie as tie
 
 returns : tie.Need-returns
-unfolding verdict headChecks
+unfolding ruling headChecks
 returns c =
     simp (
       c .checked5 .ensures,

@@ -1,11 +1,12 @@
 -- `checks::judge_routine` meets its contract. Assumes nothing.
 use borrow.Author.Needs.{needs}
-use Rattle.segment.specs.Judge.{routineChecks, verdict}
+use Rattle.basis.specs.Checks.{ruling}
+use Rattle.segment.specs.Judge.{routineChecks}
 use Rattle.checks.proofs.judge_routine.Statement.{statement}
 use Rattle.checks.proofs.judge_routine.Tie as tie
 
 returns : tie.Need-returns
-unfolding verdict routineChecks
+unfolding ruling routineChecks
 returns c =
     simp (
       c .checked3 .ensures,

@@ -8,13 +8,14 @@ use native.Mathlib.Omega.{arith}
 use denote.Ref.{now}
 use Rattle.segment.specs.Head.{count}
 use Rattle.segment.specs.declared.Segment.{Segment}
-use Rattle.segment.specs.Judge.{routinesFrom, verdict}
+use Rattle.basis.specs.Checks.{ruling}
+use Rattle.segment.specs.Judge.{routinesFrom}
 use Rattle.segment.proofs.Laws.{head-good, judge-stop, judge-step, judge-done}
 use Rattle.checks.proofs.judge_routines.Statement.{statement}
 use Rattle.checks.proofs.judge_routines.Tie as tie
 
 abbrev Inv-loop : tie.InvT-loop
-Inv-loop seg h d n k₀ k = (k ≤ n) × (verdict (routinesFrom seg (count seg) 1) ≡ verdict (routinesFrom seg (n - k) (k + 1)))
+Inv-loop seg h d n k₀ k = (k ≤ n) × (ruling (routinesFrom seg (count seg) 1) ≡ ruling (routinesFrom seg (n - k) (k + 1)))
 
 abbrev μ-loop : tie.MeasureT-loop
 μ-loop seg h d n k₀ k = n - k
