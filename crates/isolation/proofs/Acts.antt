@@ -19,7 +19,8 @@ use Rattle.sound.proofs.Below.{run-keeps, run-length}
 use Rattle.sound.proofs.Facts.{Opened, opened, used-below}
 use Rattle.bench.specs.declared.Answer.{Answer}
 use Rattle.bench.specs.declared.Answer.the-variants.{Done, Refused}
-use Rattle.bench.specs.Answer.{Result, done, refused, refusing}
+use Rattle.basis.specs.Checks.{passed, refused, ruling}
+use Rattle.bench.specs.Answer.{Result, done, refusedAt, ruled, refusing}
 use Rattle.bench.specs.Entries.{openAt, put, ranOf, doneOf, turnOf}
 use Rattle.isolation.proofs.Parts.{Public, Private, publicOf, privateOf, ownState, at-state, put-own, put-other, put-public, put-good}
 use Rattle.isolation.proofs.Whole.{same-world}
@@ -83,14 +84,19 @@ module _ (store : List ℕ) (i k : ℕ) (w : World) (g : Sound store w) where
       go false u = rw u (and-false (leb i 15))
 
   -- in a sound world, what a turn comes to is read off the session's own record
-  pub turn-good : turnOf store i k w ≡ cond (sessionAt w i .used) (cond (leb k 65535) (done (doneOf store i k w) (put i (ranOf store i k w) w)) (refused 16 w)) (refused 12 w)
-  unfolding turnOf refusing
-  turn-good = rw (g .sound, low-by (decLt i 16))
+  pub turn-good : turnOf store i k w ≡ cond (sessionAt w i .used) (cond (leb k 65535) (done (doneOf store i k w) (put i (ranOf store i k w) w)) (refusedAt 16 0 w)) (refusedAt 12 0 w)
+  unfolding turnOf refusing ruling
+  turn-good = rw (g .sound, low-by (decLt i 16)) (go (sessionAt w i .used) (leb k 65535) _)
+    where
+      go : (u few : Bool) (x : Result) → ruled (cond u (cond few passed (refused 16 0)) (refused 12 0)) w x ≡ cond u (cond few x (refusedAt 16 0 w)) (refusedAt 12 0 w)
+      go true true x = refl
+      go true false x = refl
+      go false few x = refl
 
-  turn-12 : sessionAt w i .used ≡ false → turnOf store i k w ≡ refused 12 w
+  turn-12 : sessionAt w i .used ≡ false → turnOf store i k w ≡ refusedAt 12 0 w
   turn-12 u = turn-good ∙ rw u
 
-  turn-16 : sessionAt w i .used ≡ true → leb k 65535 ≡ false → turnOf store i k w ≡ refused 16 w
+  turn-16 : sessionAt w i .used ≡ true → leb k 65535 ≡ false → turnOf store i k w ≡ refusedAt 16 0 w
   turn-16 u h = turn-good ∙ rw (u, h)
 
   pub turn-runs : sessionAt w i .used ≡ true → leb k 65535 ≡ true → turnOf store i k w ≡ done (doneOf store i k w) (put i (ranOf store i k w) w)
@@ -119,7 +125,7 @@ module _ (store : List ℕ) (i k : ℕ) (w : World) (g : Sound store w) where
       (f .cpu-ok)
 
   -- a turn on its answer and its end: refused with nothing changed, or the machine's run
-  turn-cases : (P : Result → Type 0) → P (refused 12 w) → P (refused 16 w) → (sessionAt w i .used ≡ true → leb k 65535 ≡ true → P (done (doneOf store i k w) (put i (ranOf store i k w) w))) → P (turnOf store i k w)
+  turn-cases : (P : Result → Type 0) → P (refusedAt 12 0 w) → P (refusedAt 16 0 w) → (sessionAt w i .used ≡ true → leb k 65535 ≡ true → P (done (doneOf store i k w) (put i (ranOf store i k w) w))) → P (turnOf store i k w)
   turn-cases P p q r =
       rw turn-good
       (cond-holds P (sessionAt w i .used) (λ u. cond-holds P (leb k 65535) (λ h. r u h) (λ _. q)) (λ _. p))

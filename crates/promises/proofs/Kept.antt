@@ -13,13 +13,15 @@ use Rattle.basis.specs.Bools.{every}
 use Rattle.basis.proofs.Bools.{every-holds, holds-every, and-fst, and-snd}
 use Rattle.basis.specs.Part.{splice}
 use Rattle.basis.proofs.Part.{length-splice}
-use Rattle.sound.specs.Below.{judged, Accepted, Cpu, startOf}
+use Rattle.basis.specs.Checks.{passed}
+use Rattle.basis.proofs.Checks.{Passing, is-passed, all-passed}
+use Rattle.sound.specs.Below.{judged, Cpu, startOf}
 use Rattle.sound.specs.Bench.{codeOf, slotAt, slotOf, noSlot, noSession, World, worldOf, sessionAt, at-sessions, at-slots}
 use Rattle.sound.specs.Sound.{all, limitsOk, slotOk, placed, apart, allApart, sessionOk, soundB, Sound}
 use Rattle.sound.specs.declared.Slot.{Slot}
 use Rattle.sound.specs.declared.Session.{Session}
 use Rattle.sound.specs.declared.Bench.{Bench}
-use Rattle.sound.proofs.Below.{is-accepted, start-ok}
+use Rattle.sound.proofs.Below.{start-ok}
 use Rattle.sound.proofs.Lists.{all-at, all-imp, all-put, apart-put}
 use Rattle.sound.proofs.Facts.{Parts, put-together, parts, long, opened, slot-good}
 use Rattle.bench.specs.declared.Gap.{Gap}
@@ -27,7 +29,7 @@ use Rattle.bench.specs.declared.Gap.the-variants.{At, Full}
 use Rattle.bench.specs.declared.Answer.the-variants.{Done, Refused}
 use Rattle.bench.specs.Answer.{numberOf, Result, refusing}
 use Rattle.bench.specs.Entries.{emptyBench, newOf, loadedSlot, rangeOk, loadOf, lenOk, recordFor, clearOf, gapAt, gapOf, gapFor, found, placeIn, cleared, fresh, openOf, openAt, closeOf}
-use Rattle.bench.proofs.Refusing.{Passing, by-checks, by-verdict}
+use Rattle.bench.proofs.Refusing.{by-checks}
 use Rattle.bench.proofs.Lowest.{lowest-passes}
 
 module _ (store : List ℕ) (w : World) (g : Sound store w) where
@@ -65,7 +67,7 @@ module _ (store : List ℕ) (w : World) (g : Sound store w) where
   pub close-sound : (i : ℕ) → Sound store (closeOf store i w .world)
   unfolding closeOf
   close-sound i =
-      by-checks (λ r. Sound store (r .world)) _ w _ (λ _. g)
+      by-checks (λ r. Sound store (r .world)) _ w _ (λ _ _. g)
       (λ p. replaced-good i noSession (sessionAt w i .base) (sessionAt w i .base + sessionAt w i .len) (omega arith)
       (opened store w g i (and-snd (leb i 15) (sessionAt w i .used) (p .1 .0)) .inside)
       unused-placed unused-ok (λ j o n. unused-apart (sessionAt w j)))
@@ -104,7 +106,7 @@ module _ (store : List ℕ) (w : World) (g : Sound store w) where
   pub open-sound : (slot len : ℕ) → Sound store (openOf store slot len w .world)
   unfolding openOf c
   open-sound slot len =
-      by-checks (λ r. Sound store (r .world)) _ w _ (λ _. g)
+      by-checks (λ r. Sound store (r .world)) _ w _ (λ _ _. g)
       (λ p. opens-by slot len (and-fst (leb slot 15) (slotAt (w .bench .slots) slot .loaded) (p .1 .0)) (and-snd (leb slot 15) (slotAt (w .bench .slots) slot .loaded) (p .1 .0)) (p .1 .1 .0) (recordFor w) (gapFor w len) refl (p .1 .1 .1 .1 .0))
 
 module _ (store : List ℕ) (w : World) (g : Sound store w) (slot start len : ℕ) (free : slotAt (w .bench .slots) slot .loaded ≡ false) where
@@ -128,7 +130,7 @@ module _ (store : List ℕ) (w : World) (g : Sound store w) (slot start len : �
           rw (same-slot se (a .1 .0)) q
       go false u q = rw u
 
-  loaded-good : rangeOk store start len ≡ true → judged (codeOf store (loadedSlot start len)) ≡ Accepted → Sound store (worldOf (at-slots (w .bench) slots′) (w .mem))
+  loaded-good : rangeOk store start len ≡ true → judged (codeOf store (loadedSlot start len)) ≡ passed → Sound store (worldOf (at-slots (w .bench) slots′) (w .mem))
   unfolding slots′ slotOk
   loaded-good r j =
       let p = parts store w g in
@@ -139,7 +141,7 @@ module _ (store : List ℕ) (w : World) (g : Sound store w) (slot start len : �
             (record {
               limits = p .limits;
               sized = p .sized;
-              slots = all-put (slotOk store) (w .bench .slots) slot (loadedSlot start len) (p .slots) (holds-every _ (and-snd (eqb (start % 2) 0) (leb (start + len) (length store)) r, (is-accepted _ j, tt)));
+              slots = all-put (slotOk store) (w .bench .slots) slot (loadedSlot start len) (p .slots) (holds-every _ (and-snd (eqb (start % 2) 0) (leb (start + len) (length store)) r, (is-passed _ j, tt)));
               places = p .places;
               lone = p .lone;
               sessions = all-imp (sessionOk store (w .bench .slots)) (sessionOk store slots′) (w .bench .sessions) still-ok (p .sessions);
@@ -147,11 +149,10 @@ module _ (store : List ℕ) (w : World) (g : Sound store w) (slot start len : �
       }
 
 pub load-sound : (store : List ℕ) (w : World) → Sound store w → (slot start len : ℕ) → Sound store (loadOf store slot start len w .world)
-unfolding loadOf slots′
+unfolding loadOf slots′ judged
 load-sound store w g slot start len =
-    by-checks (λ r. Sound store (r .world)) _ w _ (λ _. g)
-    (λ p. by-verdict (λ r. Sound store (r .world)) (judged (codeOf store (loadedSlot start len))) w _ (λ _ _. g)
-    (λ j. loaded-good store w g slot start len (not-true _ (and-snd (leb slot 15) (not (slotAt (w .bench .slots) slot .loaded)) (p .1 .0))) (p .1 .1 .0) j))
+    by-checks (λ r. Sound store (r .world)) _ w _ (λ _ _. g)
+    (λ p. loaded-good store w g slot start len (not-true _ (and-snd (leb slot 15) (not (slotAt (w .bench .slots) slot .loaded)) (p .1 .0))) (p .1 .1 .0) (all-passed _ (p .1 .1 .1)))
 
 pub new-sound : (store m : List ℕ) (n s : ℕ) → numberOf (newOf n s .answer) ≡ 0 → length m ≡ n → Sound store (worldOf (newOf n s .bench) m)
 unfolding newOf soundB slotOk placed sessionOk apart

@@ -21,9 +21,11 @@ use Rattle.sound.proofs.Facts.{long, used-in, opened}
 use Rattle.bench.specs.declared.Gap.{Gap}
 use Rattle.bench.specs.declared.Gap.the-variants.{At, Full}
 use Rattle.bench.specs.declared.Answer.the-variants.{Done, Refused}
-use Rattle.bench.specs.Answer.{numberOf, Result, check, refusing}
+use Rattle.basis.specs.Checks.{check}
+use Rattle.basis.proofs.Checks.{Passing}
+use Rattle.bench.specs.Answer.{numberOf, Result, refusing}
 use Rattle.bench.specs.Entries.{isSound, loadedAt, lenOk, first, unused, recordFor, clearOf, lowest, gapAt, gapOf, gapFor, found, placeIn, cleared, fresh, opens, openOf}
-use Rattle.bench.proofs.Refusing.{Passing, passes, stops, by-checks}
+use Rattle.bench.proofs.Refusing.{passes, stops, by-checks}
 use Rattle.bench.proofs.Lowest.{first-at, lowest-passes}
 use Rattle.bench.proofs.Opens.{checksOf}
 use Rattle.promises.specs.Words.{InRegion, Free, GapFrom, Opens}
@@ -168,7 +170,7 @@ module _ (store : List ℕ) (w : World) (slot len : ℕ) (g : Sound store w) whe
     unfolding openOf
     refused-by Full e n =
         ap (λ (r : Result). numberOf (r .answer))
-        (stops (check 11 (isSound store w) ∷ check 12 (loadedAt w slot) ∷ check 13 (lenOk (codeOf store (slotAt (w .bench .slots) slot)) len) ∷ check 14 (leb (recordFor w) 15) ∷ []) (check 15 (found (gapFor w len))) [] w
+        (stops (check 11 0 (isSound store w) ∷ check 12 0 (loadedAt w slot) ∷ check 13 0 (lenOk (codeOf store (slotAt (w .bench .slots) slot)) len) ∷ check 14 0 (leb (recordFor w) 15) ∷ []) 15 (found (gapFor w len)) [] w
         (opens slot len (startOf (codeOf store (slotAt (w .bench .slots) slot)) len) (recordFor w) (placeIn (gapFor w len)) w)
         (g .sound, (ld, (lk, (le-leb _ _ left, tt)))) (ap found e))
     refused-by (At a) e n = absurd (n a (gap-free store w g len a (is-gap store w g len a e)))
@@ -201,5 +203,5 @@ module _ (store : List ℕ) (w : World) (slot len : ℕ) (g : Sound store w) whe
   unfolding openOf
   opened-is i =
       by-checks (λ r. r .answer ≡ Done i → Opens store slot len w (r .world) i) (checksOf store slot len w) w _
-      (λ n e. let z : _≡_ {A = ℕ} 0 1 = cc in absurd (omega arith))
+      (λ n q e. let z : _≡_ {A = ℕ} 0 1 = cc in absurd (omega arith))
       (λ p e. let z : recordFor w ≡ i = cc in rw (← z) (done-by p (gapFor w len) refl))

@@ -38,7 +38,7 @@ ran-sound store w g i k u =
 turn-sound : (store : List ℕ) (w : World) → Sound store w → (i k : ℕ) → Sound store (turnOf store i k w .world)
 unfolding turnOf
 turn-sound store w g i k =
-    by-checks (λ r. Sound store (r .world)) _ w _ (λ _. g)
+    by-checks (λ r. Sound store (r .world)) _ w _ (λ _ _. g)
     (λ p. ran-sound store w g i k (and-snd (leb i 15) (sessionAt w i .used) (p .1 .0)))
 
 one-answer : (r r′ : Out) (m m′ : List ℕ) (x : Result) → resultOf r m ≡ x → resultOf r′ m′ ≡ x → (r ≡ r′) × (m ≡ m′)

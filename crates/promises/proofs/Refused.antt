@@ -8,9 +8,10 @@ use lib.ListN.{set}
 use Rattle.sound.specs.Below.{judged}
 use Rattle.sound.specs.Bench.{codeOf, World, worldOf, at-slots}
 use Rattle.bench.specs.declared.Answer.the-variants.{Done, Refused}
-use Rattle.bench.specs.Answer.{Result, done, refused, refusedAt, Check, refusing, judging}
+use Rattle.basis.specs.Checks.{Check}
+use Rattle.bench.specs.Answer.{Result, done, refusedAt, refusing}
 use Rattle.bench.specs.Entries.{loadedSlot, loadOf, openOf, turnOf, closeOf}
-use Rattle.bench.proofs.Refusing.{by-checks, by-verdict}
+use Rattle.bench.proofs.Refusing.{by-checks}
 use Rattle.promises.specs.Promises.{Unchanged}
 
 refused-at : (w : World) (n p : ℕ) → Unchanged w (refusedAt n p w)
@@ -20,7 +21,7 @@ done-same : (w v : World) (d : ℕ) → Unchanged w (done d v)
 done-same w v d n p e = let z : _≡_ {A = ℕ} 0 1 = cc in absurd (omega arith)
 
 checked : (cs : List Check) (w : World) (x : Result) → Unchanged w x → Unchanged w (refusing cs w x)
-checked cs w x h = by-checks (Unchanged w) cs w x (λ n. refused-at w n 0) (λ _. h)
+checked cs w x h = by-checks (Unchanged w) cs w x (refused-at w) (λ _. h)
 
 module _ (store : List ℕ) (w : World) where
   pub turn-unchanged : (i k : ℕ) → Unchanged w (turnOf store i k w)
@@ -38,4 +39,4 @@ module _ (store : List ℕ) (w : World) where
   pub load-unchanged : (slot start len : ℕ) → Unchanged w (loadOf store slot start len w)
   unfolding loadOf
   load-unchanged slot start len =
-      checked _ w _ (by-verdict (Unchanged w) (judged (codeOf store (loadedSlot start len))) w (done 0 (worldOf (at-slots (w .bench) (set (w .bench .slots) slot (loadedSlot start len))) (w .mem))) (λ n p. refused-at w n p) (λ _. done-same w _ 0))
+      checked _ w _ (done-same w _ _)
