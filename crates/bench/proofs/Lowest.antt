@@ -16,39 +16,39 @@ use Rattle.basis.proofs.Bools.{every-holds, holds-every, or-none}
 use Rattle.sound.specs.Sound.{all, placed}
 use Rattle.sound.specs.declared.Session.{Session}
 use Rattle.sound.proofs.Lists.{all-at, all-miss}
-use Rattle.bench.specs.Entries.{first, lowest, clearOf, gapAt, gapOf, hits}
+use Rattle.bench.specs.Entries.{firstPlace, lowest, clearOf, gapAt, gapOf, hits}
 use Rattle.bench.specs.declared.Gap.{Gap}
 use Rattle.bench.specs.declared.Gap.the-variants.{At, Full}
 
-module _ {A : Type 0} (p : A → Bool) (l : List A) (i : ℕ) (inv : first p l ≡ first p (drop i l) + i) where
-  pub first-found : (d : A) → i < length l → p (getD l i d) ≡ true → i ≡ first p l
+module _ {A : Type 0} (p : A → Bool) (l : List A) (i : ℕ) (inv : firstPlace p l ≡ firstPlace p (drop i l) + i) where
+  pub first-found : (d : A) → i < length l → p (getD l i d) ≡ true → i ≡ firstPlace p l
   first-found d h e =
-      let q : first p (drop i l) ≡ 0 = rw (drop-cons l i d h, e) in
+      let q : firstPlace p (drop i l) ≡ 0 = rw (drop-cons l i d h, e) in
       omega arith
 
-  pub first-next : (d : A) → i < length l → p (getD l i d) ≡ false → first p l ≡ first p (drop (i + 1) l) + (i + 1)
+  pub first-next : (d : A) → i < length l → p (getD l i d) ≡ false → firstPlace p l ≡ firstPlace p (drop (i + 1) l) + (i + 1)
   first-next d h e =
-      let q : first p (drop i l) ≡ first p (drop (i + 1) l) + 1 = rw (drop-cons l i d h, e, add-one i) in
+      let q : firstPlace p (drop i l) ≡ firstPlace p (drop (i + 1) l) + 1 = rw (drop-cons l i d h, e, add-one i) in
       omega arith
 
-  pub first-none : (n : ℕ) → i ≡ n → length l ≤ i → n ≡ first p l
+  pub first-none : (n : ℕ) → i ≡ n → length l ≤ i → n ≡ firstPlace p l
   first-none n e h =
-      let q : first p (drop i l) ≡ 0 = rw (drop-of-length-le l h) in
+      let q : firstPlace p (drop i l) ≡ 0 = rw (drop-of-length-le l h) in
       omega arith
 
-pub first-at : {A : Type 0} (p : A → Bool) (l : List A) (d : A) → first p l < length l → p (getD l (first p l) d) ≡ true
+pub first-at : {A : Type 0} (p : A → Bool) (l : List A) (d : A) → firstPlace p l < length l → p (getD l (firstPlace p l) d) ≡ true
 first-at p [] d h = absurd (omega arith)
 first-at p (x ∷ l) d h = go (p x) refl (λ o. first-at p l d o) h
   where
-    go : (b : Bool) → p x ≡ b → (first p l < length l → p (getD l (first p l) d) ≡ true) → cond b 0 (first p l + 1) < length (x ∷ l) → p (getD (x ∷ l) (cond b 0 (first p l + 1)) d) ≡ true
+    go : (b : Bool) → p x ≡ b → (firstPlace p l < length l → p (getD l (firstPlace p l) d) ≡ true) → cond b 0 (firstPlace p l + 1) < length (x ∷ l) → p (getD (x ∷ l) (cond b 0 (firstPlace p l + 1)) d) ≡ true
     go true e f o = e
-    go false e f o = rw (add-one (first p l)) (f (omega arith))
+    go false e f o = rw (add-one (firstPlace p l)) (f (omega arith))
 
-pub first-clear : {A : Type 0} (q : A → Bool) (l : List A) → length l ≤ first (λ (x : A). not (q x)) l → all q l ≡ true
+pub first-clear : {A : Type 0} (q : A → Bool) (l : List A) → length l ≤ firstPlace (λ (x : A). not (q x)) l → all q l ≡ true
 first-clear q [] h = refl
 first-clear {A} q (x ∷ l) h = go (q x) refl (λ o. first-clear q l o) h
   where
-    go : (b : Bool) → q x ≡ b → (length l ≤ first (λ (y : A). not (q y)) l → all q l ≡ true) → length (x ∷ l) ≤ cond (not b) 0 (first (λ (y : A). not (q y)) l + 1) → (b && all q l) ≡ true
+    go : (b : Bool) → q x ≡ b → (length l ≤ firstPlace (λ (y : A). not (q y)) l → all q l ≡ true) → length (x ∷ l) ≤ cond (not b) 0 (firstPlace (λ (y : A). not (q y)) l + 1) → (b && all q l) ≡ true
     go true e f o = f (omega arith)
     go false e f o = absurd (omega arith)
 
@@ -157,10 +157,10 @@ pub ends : (l : List Session) (s n h : ℕ) (d : Session) → all (placed n s) l
 unfolding placed
 ends l s n h d e o u = leb-true _ _ (every-holds _ (rw u at (all-at (placed n s) l h d e o)) .1 .0)
 
-pub blocked : (l : List Session) (a len h : ℕ) (d : Session) → h ≡ first (hits a len) l → h < length l → clearOf a len (getD l h d) ≡ false
+pub blocked : (l : List Session) (a len h : ℕ) (d : Session) → h ≡ firstPlace (hits a len) l → h < length l → clearOf a len (getD l h d) ≡ false
 blocked l a len h d e o =
-    let q : first (hits a len) l < length l = rw (← e) o in
+    let q : firstPlace (hits a len) l < length l = rw (← e) o in
     not-true (clearOf a len (getD l h d)) (rw (← e) at (first-at (hits a len) l d q))
 
-pub clear-all : (l : List Session) (a len h : ℕ) → h ≡ first (hits a len) l → length l ≤ h → all (clearOf a len) l ≡ true
+pub clear-all : (l : List Session) (a len h : ℕ) → h ≡ firstPlace (hits a len) l → length l ≤ h → all (clearOf a len) l ≡ true
 clear-all l a len h e o = first-clear (clearOf a len) l (rw e at o)

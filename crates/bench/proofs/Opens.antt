@@ -22,7 +22,7 @@ use Rattle.bench.specs.declared.Gap.{Gap}
 use Rattle.bench.specs.declared.Gap.the-variants.{At, Full}
 use Rattle.bench.specs.declared.Answer.the-variants.{Done, Refused}
 use Rattle.bench.specs.Answer.{Result, resultOf, done}
-use Rattle.bench.specs.Entries.{isSound, loadedAt, lenOk, first, unused, recordFor, lowest, gapAt, gapOf, gapFor, found, placeIn, fresh, opens, openOf}
+use Rattle.bench.specs.Entries.{isSound, loadedAt, lenOk, firstPlace, unused, recordFor, lowest, gapAt, gapOf, gapFor, found, placeIn, fresh, opens, openOf}
 use Rattle.bench.proofs.Refusing.{passes, refuses}
 use Rattle.bench.proofs.Lowest.{lowest-passes}
 
@@ -85,16 +85,16 @@ module _ (store m : List ℕ) (b : Bench) (slot len : ℕ) where
         bad-len r e a g =
             refuses m b r e (check 11 0 (soundB b m store) ∷ check 12 0 (loadedAt (worldOf b m) slot) ∷ []) 13 (lenOk (codeOf store (getD (b .slots) slot noSlot)) len) _ _ a (h, (loaded, tt)) g
 
-        module _ (lk : lenOk (codeOf store (getD (b .slots) slot noSlot)) len ≡ true) (i : ℕ) (ei : i ≡ first unused (b .sessions)) where
+        module _ (lk : lenOk (codeOf store (getD (b .slots) slot noSlot)) len ≡ true) (i : ℕ) (ei : i ≡ firstPlace unused (b .sessions)) where
           pub none-left : (r : Out) → r .bench ≡ b → r .answer ≡ Refused 14 0 → 15 < i → resultOf r m ≡ openOf store slot len (worldOf b m)
           unfolding openOf
           none-left r e a g =
               refuses m b r e (check 11 0 (soundB b m store) ∷ check 12 0 (loadedAt (worldOf b m) slot) ∷ check 13 0 (lenOk (codeOf store (getD (b .slots) slot noSlot)) len) ∷ []) 14 (leb (recordFor (worldOf b m)) 15) _ _ a (h, (loaded, (lk, tt)))
-              (lt-leb (first unused (b .sessions)) 15 (rw ei at g))
+              (lt-leb (firstPlace unused (b .sessions)) 15 (rw ei at g))
 
           module _ (u : i ≤ 15) (g : Gap) (eg : g ≡ gapOf (b .sessions) (b .s) (b .n) len) where
             left : leb (recordFor (worldOf b m)) 15 ≡ true
-            left = le-leb (first unused (b .sessions)) 15 (rw ei at u)
+            left = le-leb (firstPlace unused (b .sessions)) 15 (rw ei at u)
 
             pub no-gap : (r : Out) → r .bench ≡ b → r .answer ≡ Refused 15 0 → g ≡ Full → resultOf r m ≡ openOf store slot len (worldOf b m)
             unfolding openOf

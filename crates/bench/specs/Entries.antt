@@ -8,7 +8,7 @@ use lib.ListN.{length, getD, set, replicate}
 use Rattle.basis.specs.Bools.{every}
 use Rattle.basis.specs.Checks.{check}
 use Rattle.basis.specs.Part.{splice}
-use Rattle.sound.specs.Below.{State, Cpu, cpuOf, checks, floorOf, startOf, runOf, countOf}
+use Rattle.sound.specs.Below.{SessionState, Cpu, cpuOf, checks, floorOf, startOf, runOf, countOf}
 use Rattle.sound.specs.Bench.{noSlot, noSession, codeOf, slotAt, World, worldOf, sessionAt, sharedOf, codeAt, stateAt, at-cpu, at-sessions, at-slots}
 use Rattle.sound.specs.Sound.{all, limitsOk, soundB}
 use Rattle.sound.specs.declared.Slot.{Slot}
@@ -71,15 +71,15 @@ unfoldable pub lenOk : List ℕ → ℕ → Bool
 lenOk code len = every (leb 16 len ∷ leb len 32768 ∷ leb (floorOf code) len ∷ [])
 
 -- 14: "no record unused". The place of the first element that passes, or the length; so the lowest unused record.
-abbrev pub first : {A : Type 0} → (A → Bool) → List A → ℕ
-first p [] = 0
-first p (x ∷ l) = cond (p x) 0 (first p l + 1)
+abbrev pub firstPlace : {A : Type 0} → (A → Bool) → List A → ℕ
+firstPlace p [] = 0
+firstPlace p (x ∷ l) = cond (p x) 0 (firstPlace p l + 1)
 
 abbrev pub unused : Session → Bool
 unused se = not (se .used)
 
 abbrev pub recordFor : World → ℕ
-recordFor w = first unused (w .bench .sessions)
+recordFor w = firstPlace unused (w .bench .sessions)
 
 -- the words from a up to a + len are in no region of this session
 abbrev pub clearOf : ℕ → ℕ → Session → Bool
@@ -143,14 +143,14 @@ abbrev pub openAt : World → ℕ → Bool
 openAt w i = leb i 15 && sessionAt w i .used
 
 -- the documented machine, k steps on session i's own code, the shared words and its own region; and the steps done
-abbrev pub ranOf : List ℕ → ℕ → ℕ → World → State
+abbrev pub ranOf : List ℕ → ℕ → ℕ → World → SessionState
 ranOf store i k w = runOf k (codeAt store w i) (sharedOf w) (stateAt w i)
 
 abbrev pub doneOf : List ℕ → ℕ → ℕ → World → ℕ
 doneOf store i k w = countOf k (codeAt store w i) (sharedOf w) (stateAt w i)
 
 -- session i in this state: its registers and kind in its record, its words in its region, and nothing else
-abbrev pub put : ℕ → State → World → World
+abbrev pub put : ℕ → SessionState → World → World
 put i st w =
     worldOf (at-sessions (w .bench) (set (w .bench .sessions) i (at-cpu (sessionAt w i) (cpuOf st))))
     (splice (sessionAt w i .base) (sessionAt w i .base + sessionAt w i .len) (st .words) (w .mem))

@@ -4,7 +4,7 @@ ghost use mathlib.Core.Path.{_≡_};
 ghost use mathlib.Core.Bool.{true};
 ghost use Prim.Native.Nat.{_≤_};
 ghost use Rattle.sound.specs.Sound.{all, placed};
-ghost use Rattle.bench.specs.Entries.{unused, first, clearOf, hits, gapOf};
+ghost use Rattle.bench.specs.Entries.{unused, firstPlace, clearOf, hits, gapOf};
 use super::Gap;
 use sound::Session;
 use tests::either;
@@ -12,7 +12,7 @@ use tests::ends_by;
 
 // The lowest record that is not used, or 16.
 pub fn first_unused(sessions: [Session; 16]) -> usize
-    ensures { λ r. ⌜ r ≡ first unused sessions ⌝ }
+    ensures { λ r. ⌜ r ≡ firstPlace unused sessions ⌝ }
 {
     let mut i: usize = 0;
     while i < 16 {
@@ -36,7 +36,7 @@ fn is_clear(a: usize, len: usize, se: Session) -> bool
 
 // The first session with a word among the len from a on, or 16.
 fn first_hit(sessions: [Session; 16], a: usize, len: usize) -> usize
-    ensures { λ r. ⌜ r ≡ first (hits a len) sessions ⌝ }
+    ensures { λ r. ⌜ r ≡ firstPlace (hits a len) sessions ⌝ }
 {
     let mut i: usize = 0;
     while i < 16 {

@@ -11,7 +11,7 @@ use borrow.Author.Tests.{eqb-true, le-leb, lt-leb}
 use Rattle.basis.specs.Bools.{inside}
 use Rattle.basis.proofs.Bools.{and-fst, and-snd, cond-holds}
 use Rattle.operand.specs.Bytes.{byteAt}
-use Rattle.pmachine.specs.Opcode.{Row, carried, uncarried, opcode}
+use Rattle.pmachine.specs.Opcode.{Row, carried, uncarried, opcode, rowIn, appendixB}
 use Rattle.pmachine.specs.Decoding.{decode, rowDecoded}
 use Rattle.pmachine.proofs.Rows.{numbers, at-number}
 use Rattle.code.specs.Packed.{packedForms, packed, Agrees}
@@ -29,7 +29,7 @@ right : ℕ → Bool
 right b = eqb (getD rows b 0) (packed (opcode b)) && eqb (cond (isCarried (opcode b)) 0 1) (cond (leb 2147483648 (packed (opcode b))) 1 0)
 
 tested : numbers right 256 ≡ true
-unfolding rows right opcode packed packedForms isCarried
+unfolding rows right opcode rowIn appendixB packed packedForms isCarried
 tested = refl
 
 pub table-agrees : Agrees rows

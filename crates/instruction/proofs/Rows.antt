@@ -9,7 +9,7 @@ use lib.ListN.{length, drop}
 use borrow.Author.Tests.{ne-eqb}
 use Rattle.basis.specs.Bools.{every}
 use Rattle.operand.specs.Operand.{Form, UB, SB, DB, B, W, got}
-use Rattle.pmachine.specs.Opcode.{Row, carried, uncarried, opcode}
+use Rattle.pmachine.specs.Opcode.{Row, carried, uncarried, opcode, rowIn, appendixB}
 use Rattle.pmachine.proofs.Rows.{numbers, at-number}
 use Rattle.code.specs.Packed.{digit, packedForms, packed}
 use Rattle.instruction.specs.Standing.{leading}
@@ -31,7 +31,7 @@ right : ℕ → Bool
 right b = agrees (opcode b) (packed (opcode b))
 
 tested : numbers right 256 ≡ true
-unfolding every agrees right opcode packed packedForms
+unfolding every agrees right opcode rowIn appendixB packed packedForms
 tested = refl
 
 pub row-agrees : (b n : ℕ) → b < 256 → n ≡ packed (opcode b) → agrees (opcode b) n ≡ true

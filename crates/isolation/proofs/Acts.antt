@@ -12,7 +12,7 @@ use borrow.Author.Tests.{le-leb}
 use Rattle.basis.proofs.Bools.{cond-holds}
 use Rattle.basis.proofs.Part.{length-part}
 use Rattle.interleave.specs.Interleave.{Isolated}
-use Rattle.sound.specs.Below.{State, stateOf, cpuOf, cpuOk, runOf, countOf}
+use Rattle.sound.specs.Below.{SessionState, stateOf, cpuOf, cpuOk, runOf, countOf}
 use Rattle.sound.specs.Bench.{codeOf, slotOf, World, sessionAt, sharedOf, wordsOf, codeAt, stateAt}
 use Rattle.sound.specs.Sound.{Sound}
 use Rattle.sound.proofs.Below.{run-keeps, run-length}
@@ -162,7 +162,7 @@ module _ (store : List ℕ) (i k : ℕ) (w : World) (g : Sound store w) where
   said-by : (b : Bool) → sessionAt w i .used ≡ b → (c : Bool) → leb k 65535 ≡ c → answered store i k w ≡ saysOf store (publicOf w) k (privateOf i w)
   said-by true u true h =
       ap (λ (r : Result). r .answer) (turn-runs u h)
-      ∙ sym (ap (λ (s : State). Done (countOf k (codeAt store w i) (sharedOf w) s)) (own-state-is u))
+      ∙ sym (ap (λ (s : SessionState). Done (countOf k (codeAt store w i) (sharedOf w) s)) (own-state-is u))
       ∙ sym (says-runs store (publicOf w) k (privateOf i w) u h)
   said-by true u false h =
       ap (λ (r : Result). r .answer) (turn-16 u h) ∙ sym (says-16 store (publicOf w) k (privateOf i w) u h)

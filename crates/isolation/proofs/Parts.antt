@@ -12,7 +12,7 @@ use borrow.Author.Tests.{leb-true, ltb-true}
 use Rattle.basis.proofs.Bools.{or-cases}
 use Rattle.basis.specs.Part.{part}
 use Rattle.basis.proofs.Part.{length-part, getD-part, length-splice, part-splice, take-splice, getD-below, getD-above}
-use Rattle.sound.specs.Below.{State, stateOf, cpuOf, cpuOk}
+use Rattle.sound.specs.Below.{SessionState, stateOf, cpuOf, cpuOk}
 use Rattle.sound.specs.Bench.{noSession, World, sessionAt, sharedOf, wordsOf, codeAt, at-cpu}
 use Rattle.sound.specs.Sound.{all, Sound}
 use Rattle.sound.specs.declared.Slot.{Slot}
@@ -54,10 +54,10 @@ abbrev pub privateOf : ℕ → World → Private
 privateOf i w = record { rec = sessionAt w i; words = cond (sessionAt w i .used) (wordsOf w (sessionAt w i)) [] }
 
 -- the state of a session that is open: what the machine runs on
-abbrev pub ownState : Private → State
+abbrev pub ownState : Private → SessionState
 ownState p = stateOf (p .words) (p .rec .cpu)
 
-abbrev pub at-state : Private → State → Private
+abbrev pub at-state : Private → SessionState → Private
 at-state p st = record { rec = at-cpu (p .rec) (cpuOf st); words = st .words }
 
 pub ap₃ : {A B C D : Type 0} (f : A → B → C → D) {a a′ : A} {b b′ : B} {c c′ : C} → a ≡ a′ → b ≡ b′ → c ≡ c′ → f a b c ≡ f a′ b′ c′
@@ -70,7 +70,7 @@ module _ (store : List ℕ) (w : World) (g : Sound store w) (i : ℕ) (u : sessi
   fits : sessionAt w i .base + sessionAt w i .len ≤ length (w .mem)
   fits = opened store w g i u .inside
 
-  module _ (st : State) (l : length (st .words) ≡ sessionAt w i .len) where
+  module _ (st : SessionState) (l : length (st .words) ≡ sessionAt w i .len) where
     l′ : length (st .words) ≡ sessionAt w i .base + sessionAt w i .len - sessionAt w i .base
     l′ = omega arith
 

@@ -8,7 +8,7 @@ use native.Mathlib.Nat.{zero-add}
 use lib.Dec.{leb}
 use Rattle.interleave.specs.Interleave.{By, mine, oneByOne, Below, acts, answers, alone, aloneSays, Interleaved, Alike, TwoRuns}
 use Rattle.interleave.proofs.Interleave.{interleaved, two-runs}
-use Rattle.sound.specs.Below.{State, Cpu, stateOf, cpuOf, runOf, countOf}
+use Rattle.sound.specs.Below.{SessionState, Cpu, stateOf, cpuOf, runOf, countOf}
 use Rattle.sound.specs.Bench.{World, sessionAt, sharedOf, wordsOf, codeAt, stateAt, at-cpu}
 use Rattle.sound.specs.Sound.{Sound}
 use Rattle.sound.proofs.Below.{state-again, run-none, run-add, count-none, count-add}
@@ -43,18 +43,18 @@ alone-refused store c (k ∷ ks) p u =
     rw (next-12 store c k p u, says-12 store c k p u) (ap (λ (l : List Answer). Refused 12 0 ∷ l) (alone-refused store c ks p u))
 
 module _ (code shared : List ℕ) where
-  counts-by : (k : ℕ) (ks : List ℕ) (st : State) (b : Bool) → leb k 65535 ≡ b → ((s : State) → reported (reportsOf code shared ks s) ≡ countOf (stepsOf ks) code shared s) → reported (cond b (Done (countOf k code shared st) ∷ reportsOf code shared ks (runOf k code shared st)) (Refused 16 0 ∷ reportsOf code shared ks st)) ≡ countOf (cond b k 0 + stepsOf ks) code shared st
+  counts-by : (k : ℕ) (ks : List ℕ) (st : SessionState) (b : Bool) → leb k 65535 ≡ b → ((s : SessionState) → reported (reportsOf code shared ks s) ≡ countOf (stepsOf ks) code shared s) → reported (cond b (Done (countOf k code shared st) ∷ reportsOf code shared ks (runOf k code shared st)) (Refused 16 0 ∷ reportsOf code shared ks st)) ≡ countOf (cond b k 0 + stepsOf ks) code shared st
   counts-by k ks st true h r =
       ap (λ (n : ℕ). countOf k code shared st + n) (r (runOf k code shared st)) ∙ sym (count-add k (stepsOf ks) code shared st)
   counts-by k ks st false h r = rw (zero-add (stepsOf ks), zero-add) (r st)
 
   -- what the machine reports is the count of all its steps
-  counts-are : (ks : List ℕ) (st : State) → reported (reportsOf code shared ks st) ≡ countOf (stepsOf ks) code shared st
+  counts-are : (ks : List ℕ) (st : SessionState) → reported (reportsOf code shared ks st) ≡ countOf (stepsOf ks) code shared st
   counts-are [] st = sym (count-none code shared st)
   counts-are (k ∷ ks) st = counts-by k ks st (leb k 65535) refl (λ s. counts-are ks s)
 
 module _ (store : List ℕ) (c : Public) where
-  machine : ℕ → Private → State
+  machine : ℕ → Private → SessionState
   machine k p = runOf k (codeIn store c p) (c .shared) (ownState p)
 
   runs-by : (k : ℕ) (ks : List ℕ) (p : Private) → p .rec .used ≡ true → (b : Bool) → leb k 65535 ≡ b → ((q : Private) → q .rec .used ≡ true → alone (turns store) c ks q ≡ at-state q (machine (stepsOf ks) q)) → alone (turns store) c ks (nextOf store c k p) ≡ at-state p (machine (cond b k 0 + stepsOf ks) p)
@@ -62,7 +62,7 @@ module _ (store : List ℕ) (c : Public) where
   runs-by k ks p u true h r =
       rw (next-runs store c k p u h)
       (r (at-state p (machine k p)) u
-      ∙ ap (λ (st : State). at-state p (runOf (stepsOf ks) (codeIn store c p) (c .shared) st)) (state-again (machine k p))
+      ∙ ap (λ (st : SessionState). at-state p (runOf (stepsOf ks) (codeIn store c p) (c .shared) st)) (state-again (machine k p))
       ∙ ap (at-state p) (sym (run-add k (stepsOf ks) (codeIn store c p) (c .shared) (ownState p))))
   runs-by k ks p u false h r = rw (next-16 store c k p u h, zero-add (stepsOf ks)) (r p u)
 
@@ -77,7 +77,7 @@ module _ (store : List ℕ) (c : Public) where
       rw (next-runs store c k p u h, says-runs store c k p u h)
       (ap (λ (l : List Answer). Done (countOf k (codeIn store c p) (c .shared) (ownState p)) ∷ l)
       (r (at-state p (machine k p)) u
-      ∙ ap (λ (st : State). reportsOf (codeIn store c p) (c .shared) ks st) (state-again (machine k p))))
+      ∙ ap (λ (st : SessionState). reportsOf (codeIn store c p) (c .shared) ks st) (state-again (machine k p))))
   says-by k ks p u false h r =
       rw (next-16 store c k p u h, says-16 store c k p u h) (ap (λ (l : List Answer). Refused 16 0 ∷ l) (r p u))
 
@@ -102,7 +102,7 @@ module _ (store : List ℕ) (ts : List Turn) (w : World) (g : Sound store w) (i 
       rw (answers-are store ts w)
       (interleaved (turns store) .own-answers ts w g i
       ∙ alone-says store (publicOf w) (mine i ts) (privateOf i w) u
-      ∙ ap (λ (st : State). reportsOf (codeAt store w i) (sharedOf w) (mine i ts) st) (own-state-is store i 0 w g u))
+      ∙ ap (λ (st : SessionState). reportsOf (codeAt store w i) (sharedOf w) (mine i ts) st) (own-state-is store i 0 w g u))
 
   on-its-own : OnItsOwn store ts w i
   on-its-own =
@@ -137,7 +137,7 @@ module _ (store store′ : List ℕ) (c : Public) (p : Private) (d : Public) (r 
         open-here = s .open-here;
         open-there = s .open-there;
         cpu = ap cpuOf same-run;
-        words = ap (λ (st : State). st .words) same-run;
+        words = ap (λ (st : SessionState). st .words) same-run;
         code = s .code;
         shared = s .shared;
       })

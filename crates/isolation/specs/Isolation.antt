@@ -8,7 +8,7 @@ use mathlib.Core.Bool.{true, false, cond}
 use Prim.Native.Nat.{ℕ, _+_}
 use lib.Dec.{leb}
 use Rattle.interleave.specs.Interleave.{By, mine, oneByOne, Below}
-use Rattle.sound.specs.Below.{State, cpuOf, runOf, countOf}
+use Rattle.sound.specs.Below.{SessionState, cpuOf, runOf, countOf}
 use Rattle.sound.specs.Bench.{World, sessionAt, sharedOf, wordsOf, codeAt, stateAt, at-cpu}
 use Rattle.sound.specs.Sound.{Sound}
 use Rattle.bench.specs.declared.Answer.{Answer}
@@ -42,7 +42,7 @@ reported [] = 0
 reported (a ∷ l) = valueOf a + reported l
 
 -- what the documented machine answers to some turns, on this code, these shared words and this state
-abbrev pub reportsOf : List ℕ → List ℕ → List ℕ → State → List Answer
+abbrev pub reportsOf : List ℕ → List ℕ → List ℕ → SessionState → List Answer
 reportsOf code shared [] st = []
 reportsOf code shared (k ∷ ks) st =
     cond (leb k 65535)

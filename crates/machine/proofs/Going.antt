@@ -10,14 +10,14 @@ use Rattle.basis.specs.Part.{part, splice}
 use Rattle.basis.proofs.Part.{length-part, splice-same, length-splice, part-splice, take-splice, drop-splice}
 use Rattle.pmachine.specs.State.{Registers, Kind, ready, finished, faulted, State}
 use Rattle.pmachine.specs.Step.{Outcome, judge}
-use Rattle.pmachine.specs.Run.{isReady, settled, step, run, count}
+use Rattle.pmachine.specs.Run.{isReady, settled, step, run, stepsDone}
 use Rattle.pmachine.specs.Sound.{Loaded, Ranged}
 use Rattle.pmachine.proofs.Runs.{step-length, step-ready, run-none, count-none, run-suc, run-stopped, count-stopped, count-ready}
 use Rattle.pmachine.proofs.Keeps.{Whole, step-whole}
 use Rattle.plan.specs.Answer.{regsOf}
 use Rattle.machine.specs.declared.Stepped.{Stepped}
 use Rattle.machine.specs.declared.Turned.{Turned}
-use Rattle.machine.specs.Memory.{kindOf, Placed, stateAt, wentTo, cameTo, Stood, RanTo}
+use Rattle.machine.specs.Memory.{kindOf, Placed, stateAt, wentTo, cameTo, Stood, TurnedTo}
 
 splice-twice : (a e : ℕ) (m : List ℕ) → a ≤ e → e ≤ length m → (ys zs : List ℕ) → length ys ≡ e - a → splice a e zs (splice a e ys m) ≡ splice a e zs m
 splice-twice a e m o f ys zs l =
@@ -29,7 +29,7 @@ module _ (s m₀ : List ℕ) (at end j k : ℕ) (r₀ : Registers) where
   -- after `done` of k steps: what is left of the run from here is the run from the start
   pub record Going (m : List ℕ) (r : Registers) (done : ℕ) : Type 0 where
     pub ran : run s (take j m₀) k (stateAt at end m₀ r₀ ready) ≡ run s (take j m₀) (k - done) (stateAt at end m r ready)
-    pub counted : count s (take j m₀) k (stateAt at end m₀ r₀ ready) ≡ done + count s (take j m₀) (k - done) (stateAt at end m r ready)
+    pub counted : stepsDone s (take j m₀) k (stateAt at end m₀ r₀ ready) ≡ done + stepsDone s (take j m₀) (k - done) (stateAt at end m r ready)
     pub ranged : Ranged s (end - at) r
     pub held : m ≡ splice at end (part at end m) m₀
     pub size : length m ≡ length m₀
@@ -39,7 +39,7 @@ module _ (s m₀ : List ℕ) (at end j k : ℕ) (r₀ : Registers) (pl : Placed 
   pub going-start : Ranged s (end - at) r₀ → Going s m₀ at end j k r₀ m₀ r₀ 0
   going-start h =
       let e : k ≡ k - 0 = omega arith in
-      let f = ap (λ (n : ℕ). count s (take j m₀) n (stateAt at end m₀ r₀ ready)) e in
+      let f = ap (λ (n : ℕ). stepsDone s (take j m₀) n (stateAt at end m₀ r₀ ready)) e in
       record {
         ran = ap (λ (n : ℕ). run s (take j m₀) n (stateAt at end m₀ r₀ ready)) e;
         counted = omega (arith, f);
@@ -64,11 +64,11 @@ module _ (s m₀ : List ℕ) (at end j k : ℕ) (r₀ : Registers) (pl : Placed 
 
     -- the loop's test failed: all k steps are done
     pub going-end : k ≤ done → (t : Turned) → regsOf (t .cpu .regs) ≡ r → kindOf (t .cpu .kind) ≡ ready → t .done ≡ done
-        → RanTo s m₀ j at end k r₀ ready t m
+        → TurnedTo s m₀ j at end k r₀ ready t m
     going-end l t a b d =
         let left : k - done ≡ 0 = omega arith in
         let z = g .ran ∙ (ap (λ (n : ℕ). run s (take j m₀) n (stateAt at end m r ready)) left ∙ run-none s (take j m₀) (stateAt at end m r ready)) in
-        let y = ap (λ (n : ℕ). count s (take j m₀) n (stateAt at end m r ready)) left ∙ count-none s (take j m₀) (stateAt at end m r ready) in
+        let y = ap (λ (n : ℕ). stepsDone s (take j m₀) n (stateAt at end m r ready)) left ∙ count-none s (take j m₀) (stateAt at end m r ready) in
         record {
           registers = a ∙ sym (ap (λ (x : State). x .registers) z);
           kind = b ∙ sym (ap (λ (x : State). x .kind) z);
@@ -121,16 +121,16 @@ module _ (s m₀ : List ℕ) (at end j k : ℕ) (r₀ : Registers) (pl : Placed 
           ∙ (ap (λ (n : ℕ). run s (take j m₀) n (stateAt at end m r ready)) left
           ∙ (run-suc s (take j m₀) (k - (done + 1)) (stateAt at end m r ready) ∙ ap (run s (take j m₀) (k - (done + 1))) stepped))
 
-      now-counted : count s (take j m₀) k (stateAt at end m₀ r₀ ready) ≡ done + 1 + count s (take j m₀) (k - (done + 1)) (stateAt at end m′ (wentTo r q) (cameTo r q))
+      now-counted : stepsDone s (take j m₀) k (stateAt at end m₀ r₀ ready) ≡ done + 1 + stepsDone s (take j m₀) (k - (done + 1)) (stateAt at end m′ (wentTo r q) (cameTo r q))
       now-counted =
-          let a = ap (λ (n : ℕ). count s (take j m₀) n (stateAt at end m r ready)) left in
+          let a = ap (λ (n : ℕ). stepsDone s (take j m₀) n (stateAt at end m r ready)) left in
           let b = count-ready s (take j m₀) (k - (done + 1)) (stateAt at end m r ready) (unfold isReady in refl) in
-          let d = ap (count s (take j m₀) (k - (done + 1))) stepped in
+          let d = ap (stepsDone s (take j m₀) (k - (done + 1))) stepped in
           omega (arith, g .counted, a, b, d)
 
       -- a session that stopped
       pub going-stop : isReady (cameTo r q) ≡ false → (t : Turned) → regsOf (t .cpu .regs) ≡ wentTo r q → kindOf (t .cpu .kind) ≡ cameTo r q → t .done ≡ done + 1
-          → RanTo s m₀ j at end k r₀ ready t m′
+          → TurnedTo s m₀ j at end k r₀ ready t m′
       going-stop e t a b d =
           let u = stateAt at end m′ (wentTo r q) (cameTo r q) in
           let z = now-ran ∙ run-stopped s (take j m₀) (k - (done + 1)) u e in
@@ -150,7 +150,7 @@ module _ (s m₀ : List ℕ) (at end j k : ℕ) (r₀ : Registers) (pl : Placed 
           let h = step-whole s (take j m₀) (end - at) ld (stateAt at end m r ready) w in
           record {
             ran = now-ran ∙ ap (run s (take j m₀) (k - (done + 1))) u;
-            counted = now-counted ∙ ap (λ (x : State). done + 1 + count s (take j m₀) (k - (done + 1)) x) u;
+            counted = now-counted ∙ ap (λ (x : State). done + 1 + stepsDone s (take j m₀) (k - (done + 1)) x) u;
             ranged = subst (λ (x : State). Ranged s (end - at) (x .registers)) (stepped ∙ u) (h .registers);
             held = now-held;
             size = now-size;
@@ -160,7 +160,7 @@ module _ (s m₀ : List ℕ) (at end j k : ℕ) (r₀ : Registers) (pl : Placed 
 -- ---- a session that is not ready stays, and one that is ready runs
 
 pub not-ready : (s m : List ℕ) (at end j k : ℕ) (r : Registers) (c : Kind) → at ≤ end → end ≤ length m → isReady c ≡ false
-    → (t : Turned) → regsOf (t .cpu .regs) ≡ r → kindOf (t .cpu .kind) ≡ c → t .done ≡ 0 → RanTo s m j at end k r c t m
+    → (t : Turned) → regsOf (t .cpu .regs) ≡ r → kindOf (t .cpu .kind) ≡ c → t .done ≡ 0 → TurnedTo s m j at end k r c t m
 not-ready s m at end j k r c o f e t a b d =
     let z = run-stopped s (take j m) k (stateAt at end m r c) e in
     record {
@@ -177,5 +177,5 @@ ready-is finished e = absurd (false≢true e)
 ready-is (faulted n place) e = absurd (false≢true e)
 
 pub was-ready : (s m : List ℕ) (at end j k : ℕ) (r : Registers) (c : Kind) → isReady c ≡ true → {t : Turned} {m′ : List ℕ}
-    → RanTo s m j at end k r ready t m′ → RanTo s m j at end k r c t m′
-was-ready s m at end j k r c e {t} {m′} h = subst (λ (x : Kind). RanTo s m j at end k r x t m′) (ready-is c e) h
+    → TurnedTo s m j at end k r ready t m′ → TurnedTo s m j at end k r c t m′
+was-ready s m at end j k r c e {t} {m′} h = subst (λ (x : Kind). TurnedTo s m j at end k r x t m′) (ready-is c e) h

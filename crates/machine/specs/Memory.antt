@@ -7,7 +7,7 @@ use lib.ListN.{take}
 use Rattle.basis.specs.Part.{part, splice}
 use Rattle.pmachine.specs.State.{Registers, Kind as Kinds, ready, finished, faulted, State}
 use Rattle.pmachine.specs.Step.{Outcome}
-use Rattle.pmachine.specs.Run.{settled, run, count}
+use Rattle.pmachine.specs.Run.{settled, run, stepsDone}
 use Rattle.plan.specs.Answer.{regsOf}
 use Rattle.machine.specs.declared.Kind.{Kind}
 use Rattle.machine.specs.declared.Kind.the-variants.{Ready, Finished, Faulted}
@@ -51,8 +51,8 @@ pub record Stood (r : Registers) (o : Outcome) (at end : ℕ) (m : List ℕ) (q 
   pub memory : m′ ≡ splice at end (settled (part at end m) r o .words) m
 
 -- k steps from r and kind c: registers, kind and count are the definition's on the region alone, and no word outside the region changes.
-pub record RanTo (s m : List ℕ) (j at end k : ℕ) (r : Registers) (c : Kinds) (t : Turned) (m′ : List ℕ) : Type 0 where
+pub record TurnedTo (s m : List ℕ) (j at end k : ℕ) (r : Registers) (c : Kinds) (t : Turned) (m′ : List ℕ) : Type 0 where
   pub registers : regsOf (t .cpu .regs) ≡ run s (take j m) k (stateAt at end m r c) .registers
   pub kind : kindOf (t .cpu .kind) ≡ run s (take j m) k (stateAt at end m r c) .kind
-  pub done : t .done ≡ count s (take j m) k (stateAt at end m r c)
+  pub done : t .done ≡ stepsDone s (take j m) k (stateAt at end m r c)
   pub memory : m′ ≡ splice at end (run s (take j m) k (stateAt at end m r c) .words) m

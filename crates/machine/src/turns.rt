@@ -15,7 +15,7 @@ ghost use Rattle.pmachine.specs.Run.{isReady};
 ghost use Rattle.pmachine.specs.Sound.{Loaded, Ranged};
 ghost use Rattle.plan.specs.Answer.{regsOf};
 ghost use Rattle.plan.specs.Told.{Told, sexOf};
-ghost use Rattle.machine.specs.Memory.{kindOf, Placed, RanTo};
+ghost use Rattle.machine.specs.Memory.{kindOf, Placed, TurnedTo};
 
 // What a segment says: sex, dictionary, number of routines, pool and 6+G.
 pub fn facts_of(seg: &[u8]) -> Facts
@@ -62,7 +62,7 @@ fn run(
     requires { ⌜ Placed (length (now mem)) at end s ⌝ }
     requires { ⌜ (Loaded (now seg)) × (Told (now seg) facts) ⌝ }
     requires { ⌜ Ranged (now seg) (end - at) (regsOf start) ⌝ }
-    ensures { λ t. ⌜ RanTo (now (seg .entry)) (now (mem .entry)) s at end k (regsOf start) ready t (now (mem .exit)) ⌝ }
+    ensures { λ t. ⌜ TurnedTo (now (seg .entry)) (now (mem .entry)) s at end k (regsOf start) ready t (now (mem .exit)) ⌝ }
 {
     let mut sp = start.sp;
     let mut m = start.m;
@@ -151,7 +151,7 @@ pub fn turn(
     requires { ⌜ Placed (length (now mem)) at end s ⌝ }
     requires { ⌜ Loaded (now seg) ⌝ }
     requires { ⌜ Ranged (now seg) (end - at) (regsOf (q .regs)) ⌝ }
-    ensures { λ t. ⌜ RanTo (now (seg .entry)) (now (mem .entry)) s at end k (regsOf (q .regs)) (kindOf (q .kind)) t (now (mem .exit)) ⌝ }
+    ensures { λ t. ⌜ TurnedTo (now (seg .entry)) (now (mem .entry)) s at end k (regsOf (q .regs)) (kindOf (q .kind)) t (now (mem .exit)) ⌝ }
 {
     let kind = q.kind;
     if is_ready(kind) {

@@ -5,17 +5,17 @@ use Rattle.basis.specs.Bools.{inside}
 use Rattle.basis.specs.Integer.{modulo, integerOf, wordOf, unary, binary, addOf, mulOf, negOf, quotOf, remOf}
 use Rattle.operand.specs.Bytes.{wordBy}
 use Rattle.operand.specs.Operand.{given, signed, fetched}
-use Rattle.segment.specs.Head.{least, word, dict, count as routines, entry, datasize, start, pool}
+use Rattle.segment.specs.Head.{least, word, dict, count, entry, datasize, start, pool}
 use Rattle.segment.specs.Small.{small, smallTurned}
 use Rattle.turning.specs.Turn.{frame, framed, position, other, listOf, swapByte, swapAt, turned}
-use Rattle.pmachine.specs.Opcode.{opcode}
+use Rattle.pmachine.specs.Opcode.{opcode, rowIn, appendixB}
 use Rattle.pmachine.specs.Decoding.{joined, andThen, operands, lawful, allLawful, decodedWith, rowDecoded, decode}
-use Rattle.pmachine.specs.Step.{follow, reached, wordAt, target, markAt, resumes, failing, first, asks, effect, outcome, judgedBy, judge}
+use Rattle.pmachine.specs.Step.{follow, reached, wordAt, target, markAt, resumes, groundFor, firstFault, asks, effect, outcome, judgedBy, judge}
 use Rattle.pmachine.specs.Sound.{starting, opened}
-use Rattle.pmachine.specs.Run.{isReady, written, settled, step, run, count}
+use Rattle.pmachine.specs.Run.{isReady, written, settled, step, run, stepsDone}
 use Rattle.marked.specs.Table.{All, after, cases}
 
 pub cases-hold : All cases
-unfolding cases after inside modulo integerOf wordOf unary binary addOf mulOf negOf quotOf remOf wordBy given signed fetched least word dict routines entry datasize start pool small smallTurned frame framed position other listOf swapByte swapAt turned opcode joined andThen operands lawful allLawful decodedWith rowDecoded decode follow reached wordAt target markAt resumes failing first asks effect outcome judgedBy judge starting opened isReady written settled step run count
+unfolding cases after inside modulo integerOf wordOf unary binary addOf mulOf negOf quotOf remOf wordBy given signed fetched least word dict count entry datasize start pool small smallTurned frame framed position other listOf swapByte swapAt turned opcode rowIn appendixB joined andThen operands lawful allLawful decodedWith rowDecoded decode follow reached wordAt target markAt resumes groundFor firstFault asks effect outcome judgedBy judge starting opened isReady written settled step run stepsDone
 cases-hold =
     (refl, (refl, (refl, (refl, (refl, (refl, (refl, (refl, (refl, (refl, (refl, (refl, ((refl, refl), ((refl, refl), (refl, tt)))))))))))))))

@@ -10,18 +10,18 @@ use Rattle.segment.specs.Small.{small, smallTurned}
 use Rattle.turning.specs.Turn.{turned}
 use Rattle.pmachine.specs.State.{Kind, ready, faulted, State}
 use Rattle.pmachine.specs.Sound.{opened}
-use Rattle.pmachine.specs.Run.{run, count}
+use Rattle.pmachine.specs.Run.{run, stepsDone}
 
 pub data Case : Type 0 where
   reads : Form → List ℕ → Fetched → Case  -- the operand that these bytes hold
   is : ℕ → ℕ → Case  -- two words are the same
-  turns : ℕ → ℕ → State → Case  -- a turn of so many steps of the small segment, opened with L = 16, returns a count and leaves a state
+  turns : ℕ → ℕ → State → Case  -- a turn of so many steps of the small segment, opened with L = 16, returns a stepsDone and leaves a state
   twin : List ℕ → List ℕ → Case  -- a segment's turned bytes
 
 abbrev pub Says : Case → Type 0
 Says (reads f bytes o) = fetched f bytes 0 ≡ o
 Says (is x y) = x ≡ y
-Says (turns k n t) = (count small [] k (opened small 16) ≡ n) × (run small [] k (opened small 16) ≡ t)
+Says (turns k n t) = (stepsDone small [] k (opened small 16) ≡ n) × (run small [] k (opened small 16) ≡ t)
 Says (twin s t) = turned s ≡ t
 
 abbrev pub All : List Case → Type 0

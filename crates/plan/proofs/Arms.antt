@@ -11,7 +11,7 @@ use borrow.Author.Tests.{le-leb, lt-leb, ne-eqb, ltb-true, ltb-false}
 use Rattle.segment.specs.Head.{words}
 use Rattle.pmachine.specs.State.{Registers}
 use Rattle.pmachine.specs.Meaning.{Whose, globals, up, Meaning, constant, pool-offset, load, address, store, index, indirect, unary, binary, division, duplicate, swap, nothing, subrange, jump, jump-if, call, return}
-use Rattle.pmachine.specs.Opcode.{Row, carried, uncarried, opcode}
+use Rattle.pmachine.specs.Opcode.{Row, carried, uncarried, opcode, rowIn, appendixB}
 use Rattle.pmachine.specs.Decoding.{rowDecoded}
 use Rattle.pmachine.specs.Step.{Outcome, fault, goes, moved, reached, reaches, broken, outcome, judgedBy}
 use Rattle.pmachine.specs.Sound.{Ranged}
@@ -21,7 +21,7 @@ use Rattle.plan.specs.declared.Facts.{Facts}
 use Rattle.plan.specs.declared.Planned.the-variants.{Move, Swap, Bad}
 use Rattle.plan.specs.declared.Read.{Read}
 use Rattle.plan.specs.declared.Entry.{Entry}
-use Rattle.plan.specs.Answer.{regsOf, outcomeOf, pushed, one, two, given, divided, checked, loaded, addressed, stored, readAt, storedAt, pooled, jumped, branched, entered, called, returned}
+use Rattle.plan.specs.Answer.{regsOf, outcomeOf, pushed, one, two, gives, divided, checked, loaded, addressed, stored, readAt, storedAt, pooled, jumped, branched, entered, called, returned}
 use Rattle.plan.specs.Told.{Told}
 use Rattle.plan.proofs.Meanings.{instr, few-words, is-constant, is-duplicate, is-nothing, is-swap, is-unary, is-binary, is-division, is-load, is-address, is-store, no-load, no-address, no-store, no-call, is-pool, is-indirect, is-subrange, is-jump, is-branch, is-index, is-call, is-return}
 
@@ -29,29 +29,29 @@ use Rattle.plan.proofs.Meanings.{instr, few-words, is-constant, is-dupl
 
 -- the short forms
 pub sldc : (b : ℕ) → b < 32 → opcode b ≡ carried [] 0 1 (λ _. constant b)
-unfolding opcode
+unfolding opcode rowIn appendixB
 sldc b h = rw (le-leb b 31 (omega arith))
 
 pub sldl : (b : ℕ) → 32 ≤ b → b < 48 → opcode b ≡ carried [] 0 1 (λ _. load (up 0) (b - 31))
-unfolding opcode
+unfolding opcode rowIn appendixB
 sldl b l h = rw (lt-leb b 31 (omega arith), le-leb b 47 (omega arith))
 
 pub sldo : (b : ℕ) → 48 ≤ b → b < 64 → opcode b ≡ carried [] 0 1 (λ _. load globals (b - 47))
-unfolding opcode
+unfolding opcode rowIn appendixB
 sldo b l h = rw (lt-leb b 31 (omega arith), lt-leb b 47 (omega arith), le-leb b 63 (omega arith))
 
 pub gap-low : (b : ℕ) → 64 ≤ b → b < 96 → opcode b ≡ uncarried
-unfolding opcode
+unfolding opcode rowIn appendixB
 gap-low b l h =
     rw (lt-leb b 31 (omega arith), lt-leb b 47 (omega arith), lt-leb b 63 (omega arith), le-leb b 95 (omega arith))
 
 pub slla : (b : ℕ) → 96 ≤ b → b < 104 → opcode b ≡ carried [] 0 1 (λ _. address (up 0) (b - 95))
-unfolding opcode
+unfolding opcode rowIn appendixB
 slla b l h =
     rw (lt-leb b 31 (omega arith), lt-leb b 47 (omega arith), lt-leb b 63 (omega arith), lt-leb b 95 (omega arith), le-leb b 103 (omega arith))
 
 pub sstl : (b : ℕ) → 104 ≤ b → b < 112 → opcode b ≡ carried [] 1 0 (λ _. store (up 0) (b - 103))
-unfolding opcode
+unfolding opcode rowIn appendixB
 sstl b l h =
     rw (
       lt-leb b 31 (omega arith),
@@ -63,7 +63,7 @@ sstl b l h =
     )
 
 pub gap-high : (b : ℕ) → 112 ≤ b → b < 120 → opcode b ≡ uncarried
-unfolding opcode
+unfolding opcode rowIn appendixB
 gap-high b l h =
     rw (
       lt-leb b 31 (omega arith),
@@ -76,7 +76,7 @@ gap-high b l h =
     )
 
 pub sind : (b : ℕ) → 120 ≤ b → b < 128 → opcode b ≡ carried [] 1 1 (λ _. index (b - 120))
-unfolding opcode
+unfolding opcode rowIn appendixB
 sind b l h =
     rw (
       lt-leb b 31 (omega arith),
@@ -108,7 +108,7 @@ listed : ℕ → Bool
 listed b = not (leb 128 b) || not (isCarried (opcode b)) || member b keys
 
 tested : numbers listed 256 ≡ true
-unfolding listed opcode isCarried keys member
+unfolding listed opcode rowIn appendixB isCarried keys member
 tested = refl
 
 -- a byte that is none of these, as the last arm of a match on single bytes knows it
@@ -197,7 +197,7 @@ module _ (s shared w : List ℕ) (r : Registers) (h : Ranged s (length w) r) (sm
   pub sta : P ≡ storedAt w r n → r .sp + 2 ≤ length w → P ≡ outcome s shared w r (instr indirect 2 0 n)
   sta e k = e ∙ sym (is-indirect s shared w r h small n k)
 
-  pub ind : (i j b : ℕ) (v : Read) → P ≡ given r n v → v ≡ readAt w shared b j → j ≡ i → b ≡ getD w (r .sp) 0 → length shared ≤ 32768
+  pub ind : (i j b : ℕ) (v : Read) → P ≡ gives r n v → v ≡ readAt w shared b j → j ≡ i → b ≡ getD w (r .sp) 0 → length shared ≤ 32768
       → r .sp + 1 ≤ length w → P ≡ outcome s shared w r (instr (index i) 1 1 n)
   ind i j b v e a c d g k = e ∙ (rw (a, c, d) (sym (is-index s shared w r h small n i g k)))
 

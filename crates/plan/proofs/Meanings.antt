@@ -15,11 +15,11 @@ use Rattle.segment.specs.Head.{words, count, datasize, pool}
 use Rattle.pmachine.specs.State.{Registers}
 use Rattle.pmachine.specs.Meaning.{Whose, Meaning, constant, pool-offset, load, address, store, index, indirect, unary, binary, division, duplicate, swap, nothing, subrange, jump, jump-if, call, return}
 use Rattle.pmachine.specs.Decoding.{Instruction}
-use Rattle.pmachine.specs.Step.{fault, goes, floor, reached, reaches, broken, readable, wordAt, target, newRecord, markAt, resumes, moved, failing, first, asks, effect, outcome}
+use Rattle.pmachine.specs.Step.{fault, goes, floor, reached, reaches, broken, readable, wordAt, target, newRecord, markAt, resumes, moved, groundFor, firstFault, asks, effect, outcome}
 use Rattle.pmachine.specs.Sound.{Ranged}
 use Rattle.pmachine.proofs.Judged.{resumed}
 use Rattle.plan.specs.declared.Read.the-variants.{Value, Missing}
-use Rattle.plan.specs.Answer.{pushed, one, two, given, divided, checked, loaded, addressed, stored, readAt, storedAt, pooled, inCode, jumped, branched, entered, called, inOrder, returned}
+use Rattle.plan.specs.Answer.{pushed, one, two, gives, divided, checked, loaded, addressed, stored, readAt, storedAt, pooled, inCode, jumped, branched, entered, called, inOrder, returned}
 use Rattle.plan.proofs.Links.{below-suc}
 
 abbrev pub instr : Meaning → ℕ → ℕ → ℕ → Instruction
@@ -166,38 +166,38 @@ module _ (s shared w : List ℕ) (r : Registers) (h : Ranged s (length w) r) (sm
   dry2 = le-ltb (r .sp + 2) (floor s) (omega (arith, h .sp-low))
 
   pub few-words : (m : Meaning) (t g : ℕ) → length w < r .sp + t → outcome s shared w r (instr m t g n) ≡ fault 3
-  unfolding outcome failing first
+  unfolding outcome groundFor firstFault
   few-words m t g k = rw (lt-ltb (length w) (r .sp + t) k)
 
   pub is-constant : (v : ℕ) → outcome s shared w r (instr (constant v) 0 1 n) ≡ pushed (floor s) r n v
-  unfolding outcome asks effect failing first pushed
+  unfolding outcome asks effect groundFor firstFault pushed
   is-constant v = rw (fits, none-one)
 
   pub is-duplicate : r .sp + 1 ≤ length w → outcome s shared w r (instr duplicate 1 2 n) ≡ pushed (floor s) r n (getD w (r .sp) 0)
-  unfolding outcome asks effect failing first pushed
+  unfolding outcome asks effect groundFor firstFault pushed
   is-duplicate k = rw (le-ltb (length w) (r .sp + 1) k, one-two, plus0)
 
   pub is-nothing : outcome s shared w r (instr nothing 0 0 n) ≡ goes (moved r (r .sp) n) (r .sp) []
-  unfolding outcome asks effect failing first
+  unfolding outcome asks effect groundFor firstFault
   is-nothing = rw (fits, none-none, dry)
 
   pub is-swap : r .sp + 2 ≤ length w
       → outcome s shared w r (instr swap 2 2 n) ≡ goes (moved r (r .sp) n) (r .sp) (getD w (r .sp + 1) 0 ∷ getD w (r .sp) 0 ∷ [])
-  unfolding outcome asks effect failing first
+  unfolding outcome asks effect groundFor firstFault
   is-swap k = rw (le-ltb (length w) (r .sp + 2) k, two-two, dry, plus0)
 
   pub is-unary : (f : ℕ → ℕ) → r .sp + 1 ≤ length w → outcome s shared w r (instr (unary f) 1 1 n) ≡ one r n (f (getD w (r .sp) 0))
-  unfolding outcome asks effect failing first
+  unfolding outcome asks effect groundFor firstFault
   is-unary f k = rw (le-ltb (length w) (r .sp + 1) k, one-one, dry, plus0)
 
   pub is-binary : (f : ℕ → ℕ → ℕ) → r .sp + 2 ≤ length w
       → outcome s shared w r (instr (binary f) 2 1 n) ≡ two r n (f (getD w (r .sp + 1) 0) (getD w (r .sp) 0))
-  unfolding outcome asks effect failing first
+  unfolding outcome asks effect groundFor firstFault
   is-binary f k = rw (le-ltb (length w) (r .sp + 2) k, two-one, dry1, plus0)
 
   pub is-division : (f : ℕ → ℕ → ℕ) → r .sp + 2 ≤ length w
       → outcome s shared w r (instr (division f) 2 1 n) ≡ divided f r n (getD w (r .sp + 1) 0) (getD w (r .sp) 0)
-  unfolding outcome asks effect failing first divided
+  unfolding outcome asks effect groundFor firstFault divided
   is-division f k = rw (le-ltb (length w) (r .sp + 2) k, two-one, dry1, plus0)
 
   -- a word of a record that is found
@@ -206,37 +206,37 @@ module _ (s shared w : List ℕ) (r : Registers) (h : Ranged s (length w) r) (sm
     within = not-inside (length w) (rec + 4 + a) (omega arith)
 
     pub is-load : outcome s shared w r (instr (load p a) 0 1 n) ≡ loaded w (floor s) r rec a n
-    unfolding outcome asks effect failing first loaded pushed
+    unfolding outcome asks effect groundFor firstFault loaded pushed
     is-load = rw (fits, none-one, e, within)
 
     pub is-address : outcome s shared w r (instr (address p a) 0 1 n) ≡ addressed w (floor s) r rec a n
-    unfolding outcome asks effect failing first addressed pushed
+    unfolding outcome asks effect groundFor firstFault addressed pushed
     is-address = rw (fits, none-one, e, within)
 
     pub is-store : r .sp + 1 ≤ length w → outcome s shared w r (instr (store p a) 1 0 n) ≡ stored w r rec a n
-    unfolding outcome asks effect failing first stored
+    unfolding outcome asks effect groundFor firstFault stored
     is-store k = rw (le-ltb (length w) (r .sp + 1) k, one-none, e, within, dry1, plus0)
 
   -- a bad link
   module _ (p : Whose) (a : ℕ) (e : reached w (r .m) p ≡ broken) where
     pub no-load : outcome s shared w r (instr (load p a) 0 1 n) ≡ fault 9
-    unfolding outcome asks effect failing first
+    unfolding outcome asks effect groundFor firstFault
     no-load = rw (fits, e)
 
     pub no-address : outcome s shared w r (instr (address p a) 0 1 n) ≡ fault 9
-    unfolding outcome asks effect failing first
+    unfolding outcome asks effect groundFor firstFault
     no-address = rw (fits, e)
 
     pub no-store : r .sp + 1 ≤ length w → outcome s shared w r (instr (store p a) 1 0 n) ≡ fault 9
-    unfolding outcome asks effect failing first
+    unfolding outcome asks effect groundFor firstFault
     no-store k = rw (le-ltb (length w) (r .sp + 1) k, e)
 
     pub no-call : outcome s shared w r (instr (call p a) 0 0 n) ≡ fault 9
-    unfolding outcome asks effect failing first
+    unfolding outcome asks effect groundFor firstFault
     no-call = rw (fits, e)
 
   pub is-pool : (b : ℕ) → outcome s shared w r (instr (pool-offset b) 0 1 n) ≡ pooled (words s) (pool s) (floor s) r n b
-  unfolding outcome asks effect failing first pooled pushed
+  unfolding outcome asks effect groundFor firstFault pooled pushed
   is-pool b = go _ refl
     where
       go : (x : Bool) → eqb (pool s) 0 ≡ x → outcome s shared w r (instr (pool-offset b) 0 1 n) ≡ pooled (words s) (pool s) (floor s) r n b
@@ -244,7 +244,7 @@ module _ (s shared w : List ℕ) (r : Registers) (h : Ranged s (length w) r) (sm
       go false e = rw (fits, none-one, e)
 
   pub is-indirect : r .sp + 2 ≤ length w → outcome s shared w r (instr indirect 2 0 n) ≡ storedAt w r n
-  unfolding outcome asks effect failing first storedAt
+  unfolding outcome asks effect groundFor firstFault storedAt
   is-indirect k = go _ refl
     where
       go : (x : Bool) → ltb (getD w (r .sp + 1) 0) 1 ≡ x → outcome s shared w r (instr indirect 2 0 n) ≡ storedAt w r n
@@ -260,7 +260,7 @@ module _ (s shared w : List ℕ) (r : Registers) (h : Ranged s (length w) r) (sm
           )
 
   pub is-subrange : r .sp + 3 ≤ length w → outcome s shared w r (instr subrange 3 1 n) ≡ checked w r n
-  unfolding outcome asks effect failing first checked
+  unfolding outcome asks effect groundFor firstFault checked
   is-subrange k = go _ refl _ refl
     where
       go : (x : Bool) → eqb (leqOf (getD w (r .sp + 1) 0) (getD w (r .sp + 2) 0)) 1 ≡ x
@@ -270,7 +270,7 @@ module _ (s shared w : List ℕ) (r : Registers) (h : Ranged s (length w) r) (sm
       go false e y f = rw (le-ltb (length w) (r .sp + 3) k, plus0, e)
 
   pub is-jump : (d : ℕ) → outcome s shared w r (instr (jump d) 0 0 n) ≡ jumped (length s) r (r .sp) n d
-  unfolding outcome asks effect failing first jumped
+  unfolding outcome asks effect groundFor firstFault jumped
   is-jump d = go _ refl
     where
       go : (b : Bool) → inside 22 (length s) (target n d) ≡ b → outcome s shared w r (instr (jump d) 0 0 n) ≡ jumped (length s) r (r .sp) n d
@@ -278,7 +278,7 @@ module _ (s shared w : List ℕ) (r : Registers) (h : Ranged s (length w) r) (sm
       go false e = rw (fits, landed (length s) (target n d), e)
 
   pub is-branch : (want d : ℕ) → r .sp + 1 ≤ length w → outcome s shared w r (instr (jump-if want d) 1 0 n) ≡ branched w (length s) r want n d
-  unfolding outcome asks effect failing first branched jumped
+  unfolding outcome asks effect groundFor firstFault branched jumped
   is-branch want d k = go _ refl _ refl
     where
       go : (x : Bool) → eqb (getD w (r .sp) 0 % 2) want ≡ x → (b : Bool) → inside 22 (length s) (target n d) ≡ b
@@ -289,18 +289,18 @@ module _ (s shared w : List ℕ) (r : Registers) (h : Ranged s (length w) r) (sm
           rw (le-ltb (length w) (r .sp + 1) k, plus0, q, landed (length s) (target n d), e, one-none, dry1, landed-high (length s) (target n d) e)
 
   pub is-index : (i : ℕ) → length shared ≤ 32768 → r .sp + 1 ≤ length w
-      → outcome s shared w r (instr (index i) 1 1 n) ≡ given r n (readAt w shared (getD w (r .sp) 0) i)
-  unfolding outcome asks effect failing first given
+      → outcome s shared w r (instr (index i) 1 1 n) ≡ gives r n (readAt w shared (getD w (r .sp) 0) i)
+  unfolding outcome asks effect groundFor firstFault gives
   is-index i g k = go _ refl
     where
       go : (b : Bool) → readable w shared (getD w (r .sp) 0) i ≡ b
-          → outcome s shared w r (instr (index i) 1 1 n) ≡ given r n (readAt w shared (getD w (r .sp) 0) i)
+          → outcome s shared w r (instr (index i) 1 1 n) ≡ gives r n (readAt w shared (getD w (r .sp) 0) i)
       go true e = rw (le-ltb (length w) (r .sp + 1) k, plus0, read-is w shared (getD w (r .sp) 0) i small g, e, one-one, dry)
       go false e = rw (le-ltb (length w) (r .sp + 1) k, plus0, read-is w shared (getD w (r .sp) 0) i small g, e)
 
   pub is-call : (p : Whose) (rec k : ℕ) → reached w (r .m) p ≡ reaches rec
       → outcome s shared w r (instr (call p k) 0 0 n) ≡ called r k rec n (entered s (r .sp) k)
-  unfolding outcome asks effect failing first called entered inside
+  unfolding outcome asks effect groundFor firstFault called entered inside
   is-call p rec k e = go _ refl _ refl _ refl
     where
       go : (x : Bool) → ltb k 1 ≡ x → (y : Bool) → ltb (count s) k ≡ y → (z : Bool) → ltb (r .sp) (floor s + 5 + datasize s k) ≡ z
@@ -342,7 +342,7 @@ module _ (s shared w : List ℕ) (r : Registers) (h : Ranged s (length w) r) (sm
   in-order mark sp = refl
 
   pub is-return : (b : ℕ) → outcome s shared w r (instr (return b) 0 0 n) ≡ returned (length s) (count s) (floor s) w r b
-  unfolding outcome asks effect failing first returned
+  unfolding outcome asks effect groundFor firstFault returned
   is-return b = go _ refl _ refl
     where
       go : (x : Bool) → eqb (r .m) 1 ≡ x → (y : Bool) → resumes s w (markAt w (r .m)) (r .m + 5 + b) ≡ y

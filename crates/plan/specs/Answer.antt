@@ -52,9 +52,9 @@ one r next v = goes (moved r (r .sp) next) (r .sp) (v ∷ [])
 abbrev pub two : Registers → ℕ → ℕ → Outcome
 two r next v = goes (moved r (r .sp + 1) next) (r .sp + 1) (v ∷ [])
 
-unfoldable pub given : Registers → ℕ → Read → Outcome
-given r next (Value v) = one r next v
-given r next Missing = fault 6
+unfoldable pub gives : Registers → ℕ → Read → Outcome
+gives r next (Value v) = one r next v
+gives r next Missing = fault 6
 
 unfoldable pub divided : (ℕ → ℕ → ℕ) → Registers → ℕ → ℕ → ℕ → Outcome
 divided f r next x y = cond (eqb y 0) (fault 5) (two r next (f x y))

@@ -8,7 +8,7 @@ ghost use Prim.Native.Nat.{_+_, _-_, _≤_, _<_};
 ghost use lib.Dec.{ltb};
 ghost use lib.ListN.{length, getD};
 ghost use Rattle.basis.specs.Integer.{quotOf, remOf};
-ghost use Rattle.plan.specs.Answer.{regsOf, outcomeOf, pushed, given, one, two, divided, checked};
+ghost use Rattle.plan.specs.Answer.{regsOf, outcomeOf, pushed, gives, one, two, divided, checked};
 
 // A word of a region, or of the shared words.
 pub fn word_of(words: &[u16], at: usize) -> u16
@@ -70,7 +70,7 @@ pub fn give_two(r: Regs, next: usize, v: u16) -> Planned
 
 // A word that was read, in the place of its address.
 pub fn give_read(r: Regs, next: usize, x: Read) -> Planned
-    ensures { λ p. ⌜ outcomeOf r p ≡ given (regsOf r) next x ⌝ }
+    ensures { λ p. ⌜ outcomeOf r p ≡ gives (regsOf r) next x ⌝ }
 {
     match x {
         Read::Value(v) => Planned::Put(r.sp, next, r.sp, v),

@@ -14,7 +14,7 @@ use Rattle.segment.specs.Head.{count, start}
 use Rattle.pmachine.specs.State.{Registers}
 use Rattle.pmachine.specs.Meaning.{Meaning, constant, pool-offset, load, address, store, index, indirect, unary, binary, division, duplicate, swap, nothing, subrange, jump, jump-if, call, return}
 use Rattle.pmachine.specs.Decoding.{Instruction, Decoded, instruction, faulty, decode}
-use Rattle.pmachine.specs.Step.{Outcome, fault, finish, goes, floor, pointer, private, target, newRecord, markAt, resumes, moved, Check, _when_, failing, first, order, below, asks, effect, outcome, judgedBy, judge}
+use Rattle.pmachine.specs.Step.{Outcome, fault, finish, goes, floor, pointer, private, target, newRecord, markAt, resumes, moved, Ground, _when_, groundFor, firstFault, order, below, asks, effect, outcome, judgedBy, judge}
 use Rattle.pmachine.specs.Sound.{Ranged, Loaded}
 use Rattle.pmachine.proofs.Rows.{pushes}
 use Rattle.pmachine.proofs.Decoded.{Proper, ProperBy, decode-proper}
@@ -22,29 +22,29 @@ use Rattle.pmachine.proofs.Decoded.{Proper, ProperBy, decode-proper}
 -- ---- the order of checks
 
 -- none of the checks fails
-pub record Clear (checks : List Check) : Type 0 where
-  pub three : failing 3 checks ≡ false
-  pub nine : failing 9 checks ≡ false
-  pub eight : failing 8 checks ≡ false
-  pub five : failing 5 checks ≡ false
-  pub six : failing 6 checks ≡ false
-  pub seven : failing 7 checks ≡ false
-  pub ten : failing 10 checks ≡ false
-  pub four : failing 4 checks ≡ false
+pub record Clear (checks : List Ground) : Type 0 where
+  pub three : groundFor 3 checks ≡ false
+  pub nine : groundFor 9 checks ≡ false
+  pub eight : groundFor 8 checks ≡ false
+  pub five : groundFor 5 checks ≡ false
+  pub six : groundFor 6 checks ≡ false
+  pub seven : groundFor 7 checks ≡ false
+  pub ten : groundFor 10 checks ≡ false
+  pub four : groundFor 4 checks ≡ false
 
 -- what holds of each fault in 1..10, and of what happens where no check fails, holds of the first that fails
-pub first-holds : (P : Outcome → Type 0) (checks : List Check) (done : Outcome) → ((n : ℕ) → 1 ≤ n → n ≤ 10 → P (fault n)) → (Clear checks → P done)
-    → P (first order checks done)
-unfolding first
+pub first-holds : (P : Outcome → Type 0) (checks : List Ground) (done : Outcome) → ((n : ℕ) → 1 ≤ n → n ≤ 10 → P (fault n)) → (Clear checks → P done)
+    → P (firstFault order checks done)
+unfolding firstFault
 first-holds P cs done bad f =
-    cond-holds P (failing 3 cs) (λ _. bad 3 (omega arith) (omega arith)) (λ e3.
-    cond-holds P (failing 9 cs) (λ _. bad 9 (omega arith) (omega arith)) (λ e9.
-    cond-holds P (failing 8 cs) (λ _. bad 8 (omega arith) (omega arith)) (λ e8.
-    cond-holds P (failing 5 cs) (λ _. bad 5 (omega arith) (omega arith)) (λ e5.
-    cond-holds P (failing 6 cs) (λ _. bad 6 (omega arith) (omega arith)) (λ e6.
-    cond-holds P (failing 7 cs) (λ _. bad 7 (omega arith) (omega arith)) (λ e7.
-    cond-holds P (failing 10 cs) (λ _. bad 10 (omega arith) (omega arith)) (λ e10.
-    cond-holds P (failing 4 cs) (λ _. bad 4 (omega arith) (omega arith)) (λ e4.
+    cond-holds P (groundFor 3 cs) (λ _. bad 3 (omega arith) (omega arith)) (λ e3.
+    cond-holds P (groundFor 9 cs) (λ _. bad 9 (omega arith) (omega arith)) (λ e9.
+    cond-holds P (groundFor 8 cs) (λ _. bad 8 (omega arith) (omega arith)) (λ e8.
+    cond-holds P (groundFor 5 cs) (λ _. bad 5 (omega arith) (omega arith)) (λ e5.
+    cond-holds P (groundFor 6 cs) (λ _. bad 6 (omega arith) (omega arith)) (λ e6.
+    cond-holds P (groundFor 7 cs) (λ _. bad 7 (omega arith) (omega arith)) (λ e7.
+    cond-holds P (groundFor 10 cs) (λ _. bad 10 (omega arith) (omega arith)) (λ e10.
+    cond-holds P (groundFor 4 cs) (λ _. bad 4 (omega arith) (omega arith)) (λ e4.
     f (record { three = e3; nine = e9; eight = e8; five = e5; six = e6; seven = e7; ten = e10; four = e4 })))))))))
 
 -- ---- what a step may come to
@@ -186,7 +186,7 @@ module _ (s shared w : List ℕ) (r : Registers) (ld : Loaded s) (rg : Ranged s 
     effect-good : (x : Bool) (n : ℕ) (m : Meaning) → pushes m ≤ g → 22 ≤ n → n ≤ length s
         → Clear (3 when x ∷ 4 when below (floor s) (effect s shared w r sp n m) ∷ asks s shared w r n m)
         → Good s (length w) (effect s shared w r sp n m)
-    unfolding effect asks failing pushes
+    unfolding effect asks groundFor pushes
     effect-good x n (constant v) p a b c = on-stack n (v ∷ []) p a b (c .four)
     effect-good x n (pool-offset v) p a b c = on-stack n (_ ∷ []) p a b (c .four)
     effect-good x n (load u o) p a b c = on-stack n (_ ∷ []) p a b (c .four)
@@ -207,7 +207,7 @@ module _ (s shared w : List ℕ) (r : Registers) (ld : Loaded s) (rg : Ranged s 
     effect-good x n (return v) p a b c = returned v (eqb (r .m) 1) (c .nine)
 
   outcome-good : (i : Instruction) → Proper s (r .counter) i → Good s (length w) (outcome s shared w r i)
-  unfolding outcome failing
+  unfolding outcome groundFor
   outcome-good i d =
       first-holds (Good s (length w)) _ _ (λ n a b. (a, b)) (λ c.
       let h = ltb-false (length w) (r .sp + i .taken) (c .three) in

@@ -13,7 +13,7 @@ use borrow.Author.Tests.{leb-true, lt-leb}
 use Rattle.basis.specs.Bools.{every}
 use Rattle.basis.proofs.Bools.{every-holds, and-fst, and-snd}
 use Rattle.pmachine.specs.Meaning.{Meaning, constant, pool-offset, load, address, store, index, indirect, unary, binary, division, duplicate, swap, nothing, subrange, jump, jump-if, call, return}
-use Rattle.pmachine.specs.Opcode.{Row, carried, uncarried, opcode}
+use Rattle.pmachine.specs.Opcode.{Row, carried, uncarried, opcode, rowIn, appendixB, consecutive}
 
 -- the words that a meaning writes on the stack
 unfoldable pub pushes : Meaning → ℕ
@@ -64,12 +64,17 @@ roomy-row (carried forms taken given does) t =
 roomy-row uncarried t = tt
 
 bytes-roomy : (vs : List ℕ) (b : ℕ) → b < 242 → roomy vs (opcode b) ≡ true
-unfolding every opcode pushes
+unfolding every opcode rowIn appendixB pushes
 bytes-roomy vs b h = at-number (λ (k : ℕ). roomy vs (opcode k)) 242 refl b h
+
+-- every number stands in one line
+pub lines-consecutive : consecutive 0 appendixB ≡ true
+unfolding consecutive appendixB
+lines-consecutive = refl
 
 -- past the last byte that is carried
 high : (b : ℕ) → 241 < b → opcode b ≡ uncarried
-unfolding opcode
+unfolding opcode rowIn appendixB
 high b h =
     let past : (n : ℕ) → T (leb n 241) → leb b n ≡ false = λ n t. lt-leb b n (omega (arith, leb→le n 241 t)) in
     let u : Unit {0} = tt in

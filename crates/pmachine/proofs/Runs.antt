@@ -10,7 +10,7 @@ use lib.ListN.{length, set, length-set}
 use Rattle.basis.proofs.Bools.{cond-holds}
 use Rattle.pmachine.specs.State.{Registers, State}
 use Rattle.pmachine.specs.Step.{Outcome, fault, finish, goes, judge}
-use Rattle.pmachine.specs.Run.{isReady, written, settled, step, run, count}
+use Rattle.pmachine.specs.Run.{isReady, written, settled, step, run, stepsDone}
 
 -- ---- the number of words
 
@@ -46,8 +46,8 @@ module _ (s shared : List ℕ) where
   unfolding run
   run-none t = refl
 
-  pub count-none : (t : State) → count s shared 0 t ≡ 0
-  unfolding count
+  pub count-none : (t : State) → stepsDone s shared 0 t ≡ 0
+  unfolding stepsDone
   count-none t = refl
 
   pub run-stopped : (k : ℕ) (t : State) → isReady (t .kind) ≡ false → run s shared k t ≡ t
@@ -55,13 +55,13 @@ module _ (s shared : List ℕ) where
   run-stopped zero t e = refl
   run-stopped (suc k) t e = rw e
 
-  pub count-stopped : (k : ℕ) (t : State) → isReady (t .kind) ≡ false → count s shared k t ≡ 0
-  unfolding count
+  pub count-stopped : (k : ℕ) (t : State) → isReady (t .kind) ≡ false → stepsDone s shared k t ≡ 0
+  unfolding stepsDone
   count-stopped zero t e = refl
   count-stopped (suc k) t e = rw e
 
-  pub count-ready : (k : ℕ) (t : State) → isReady (t .kind) ≡ true → count s shared (suc k) t ≡ suc (count s shared k (step s shared t))
-  unfolding count
+  pub count-ready : (k : ℕ) (t : State) → isReady (t .kind) ≡ true → stepsDone s shared (suc k) t ≡ suc (stepsDone s shared k (step s shared t))
+  unfolding stepsDone
   count-ready k t e = rw e
 
   run-by : (k : ℕ) (t : State) (x : Bool) → isReady (t .kind) ≡ x → run s shared (suc k) t ≡ run s shared k (step s shared t)
@@ -84,38 +84,38 @@ module _ (s shared : List ℕ) where
   run-add (suc a) b t = rw (suc-add a b, run-suc (a + b) t, run-suc a t) (run-add a b (step s shared t))
 
   count-add-by : (a b : ℕ) (t : State) (x : Bool) → isReady (t .kind) ≡ x
-      → count s shared (a + b) (step s shared t) ≡ count s shared a (step s shared t) + count s shared b (run s shared a (step s shared t))
-      → count s shared (suc a + b) t ≡ count s shared (suc a) t + count s shared b (run s shared (suc a) t)
+      → stepsDone s shared (a + b) (step s shared t) ≡ stepsDone s shared a (step s shared t) + stepsDone s shared b (run s shared a (step s shared t))
+      → stepsDone s shared (suc a + b) t ≡ stepsDone s shared (suc a) t + stepsDone s shared b (run s shared (suc a) t)
   count-add-by a b t true e h = rw (suc-add a b, count-ready (a + b) t e, count-ready a t e, run-suc a t, h) (omega arith)
   count-add-by a b t false e h =
       rw (count-stopped (suc a + b) t e, count-stopped (suc a) t e, run-stopped (suc a) t e, count-stopped b t e)
 
-  pub count-add : (a b : ℕ) (t : State) → count s shared (a + b) t ≡ count s shared a t + count s shared b (run s shared a t)
+  pub count-add : (a b : ℕ) (t : State) → stepsDone s shared (a + b) t ≡ stepsDone s shared a t + stepsDone s shared b (run s shared a t)
   count-add zero b t = rw (zero-add, count-none t, run-none t, zero-add)
   count-add (suc a) b t = count-add-by a b t (isReady (t .kind)) refl (count-add a b (step s shared t))
 
   -- ---- the count against the steps asked for
 
-  count-most-by : (k : ℕ) (t : State) (x : Bool) → isReady (t .kind) ≡ x → count s shared k (step s shared t) ≤ k → count s shared (suc k) t ≤ suc k
+  count-most-by : (k : ℕ) (t : State) (x : Bool) → isReady (t .kind) ≡ x → stepsDone s shared k (step s shared t) ≤ k → stepsDone s shared (suc k) t ≤ suc k
   count-most-by k t true e h = omega (arith, count-ready k t e)
   count-most-by k t false e h = omega (arith, count-stopped (suc k) t e)
 
-  pub count-most : (k : ℕ) (t : State) → count s shared k t ≤ k
+  pub count-most : (k : ℕ) (t : State) → stepsDone s shared k t ≤ k
   count-most zero t = omega (arith, count-none t)
   count-most (suc k) t = count-most-by k t (isReady (t .kind)) refl (count-most k (step s shared t))
 
   count-all-by : (k : ℕ) (t : State) (x : Bool) → isReady (t .kind) ≡ x → isReady (run s shared (suc k) t .kind) ≡ true
-      → (isReady (run s shared k (step s shared t) .kind) ≡ true → count s shared k (step s shared t) ≡ k) → count s shared (suc k) t ≡ suc k
+      → (isReady (run s shared k (step s shared t) .kind) ≡ true → stepsDone s shared k (step s shared t) ≡ k) → stepsDone s shared (suc k) t ≡ suc k
   count-all-by k t true e h f = count-ready k t e ∙ ap suc (f (rw (run-suc k t) at h))
   count-all-by k t false e h f = absurd (false≢true (sym e ∙ (rw (run-stopped (suc k) t e) at h)))
 
   -- a session that is still ready did all of them
-  pub count-all : (k : ℕ) (t : State) → isReady (run s shared k t .kind) ≡ true → count s shared k t ≡ k
+  pub count-all : (k : ℕ) (t : State) → isReady (run s shared k t .kind) ≡ true → stepsDone s shared k t ≡ k
   count-all zero t h = count-none t
   count-all (suc k) t h = count-all-by k t (isReady (t .kind)) refl h (count-all k (step s shared t))
 
   -- and one that did fewer is not ready
-  pub count-less : (k : ℕ) (t : State) → count s shared k t < k → isReady (run s shared k t .kind) ≡ false
+  pub count-less : (k : ℕ) (t : State) → stepsDone s shared k t < k → isReady (run s shared k t .kind) ≡ false
   count-less k t l = go (isReady (run s shared k t .kind)) refl
     where
       go : (x : Bool) → isReady (run s shared k t .kind) ≡ x → isReady (run s shared k t .kind) ≡ false
@@ -123,12 +123,12 @@ module _ (s shared : List ℕ) where
       go false e = e
 
   count-run-by : (k : ℕ) (t : State) (x : Bool) → isReady (t .kind) ≡ x
-      → run s shared k (step s shared t) ≡ run s shared (count s shared k (step s shared t)) (step s shared t)
-      → run s shared (suc k) t ≡ run s shared (count s shared (suc k) t) t
-  count-run-by k t true e h = rw (count-ready k t e, run-suc k t, run-suc (count s shared k (step s shared t)) t) h
+      → run s shared k (step s shared t) ≡ run s shared (stepsDone s shared k (step s shared t)) (step s shared t)
+      → run s shared (suc k) t ≡ run s shared (stepsDone s shared (suc k) t) t
+  count-run-by k t true e h = rw (count-ready k t e, run-suc k t, run-suc (stepsDone s shared k (step s shared t)) t) h
   count-run-by k t false e h = rw (count-stopped (suc k) t e, run-none t) (run-stopped (suc k) t e)
 
   -- the steps done are all that a run does
-  pub count-run : (k : ℕ) (t : State) → run s shared k t ≡ run s shared (count s shared k t) t
+  pub count-run : (k : ℕ) (t : State) → run s shared k t ≡ run s shared (stepsDone s shared k t) t
   count-run zero t = rw (count-none t)
   count-run (suc k) t = count-run-by k t (isReady (t .kind)) refl (count-run k (step s shared t))

@@ -1,9 +1,9 @@
--- Appendix B: the operands, the words taken, the words given and the meaning of every first byte, in the order of the numbers.
+-- Appendix B, as far as it is carried: the operands, the words taken, the words given and the meaning of every first byte, in the order of the numbers.
 -- Above: Decoding reads it at the counter, and the code's packed table is held to it; below: Meaning, and the integers of `word`.
-use Prim.Native.Nat.{ℕ, _-_}
+use Prim.Native.Nat.{ℕ, _+_, _-_}
 use mathlib.Core.List.{List, [], _∷_}
-use mathlib.Core.Bool.{cond}
-use lib.Dec.{leb}
+use mathlib.Core.Bool.{Bool, _&&_, cond}
+use lib.Dec.{leb, eqb}
 use lib.ListN.{getD}
 use Rattle.basis.specs.Integer.{addOf, subOf, mulOf, negOf, incOf, decOf, magOf, quotOf, remOf, eqOf, neOf, leqOf, geqOf, leuOf, geuOf, andOf, orOf, notOf}
 use Rattle.operand.specs.Operand.{Form, UB, SB, DB, B, W}
@@ -22,83 +22,109 @@ one v = getD v 0 0
 abbrev pub two : List ℕ → ℕ
 two v = getD v 1 0
 
--- the first row for the bytes up to n, the other for those above
-abbrev to : ℕ → ℕ → Row → Row → Row
-to n b x y = cond (leb b n) x y
+-- A line of the table: the first bytes from one number to another, and the row of each of them.
+pub record Line : Type 0 where
+  pub from : ℕ
+  pub to : ℕ
+  pub row-of : ℕ → Row
+
+-- one number; a range of numbers, whose meaning looks at the byte; and numbers that are not carried
+abbrev row : ℕ → List Form → ℕ → ℕ → (List ℕ → Meaning) → Line
+row n forms taken given does = record { from = n; to = n; row-of = λ b. carried forms taken given does }
+
+abbrev rows : ℕ → ℕ → List Form → ℕ → ℕ → (ℕ → Meaning) → Line
+rows n m forms taken given does = record { from = n; to = m; row-of = λ b. carried forms taken given (λ _. does b) }
+
+abbrev gap : ℕ → ℕ → Line
+gap n m = record { from = n; to = m; row-of = λ b. uncarried }
+
+-- number or range, operands, words taken, words given, meaning
+unfoldable pub appendixB : List Line
+appendixB =
+    rows 0 31 [] 0 1 (λ b. constant b)  -- SLDC
+    ∷ rows 32 47 [] 0 1 (λ b. load (up 0) (b - 31))  -- SLDL
+    ∷ rows 48 63 [] 0 1 (λ b. load globals (b - 47))  -- SLDO
+    ∷ gap 64 95
+    ∷ rows 96 103 [] 0 1 (λ b. address (up 0) (b - 95))  -- SLLA
+    ∷ rows 104 111 [] 1 0 (λ b. store (up 0) (b - 103))  -- SSTL
+    ∷ gap 112 119
+    ∷ rows 120 127 [] 1 1 (λ b. index (b - 120))  -- SIND
+    ∷ row 128 (UB ∷ []) 0 1 (λ v. constant (one v))  -- LDCB
+    ∷ row 129 (W ∷ []) 0 1 (λ v. constant (one v))  -- LDCI
+    ∷ row 130 (B ∷ []) 0 1 (λ v. pool-offset (one v))  -- LCO
+    ∷ gap 131 131
+    ∷ row 132 (B ∷ []) 0 1 (λ v. address (up 0) (one v))  -- LLA
+    ∷ row 133 (B ∷ []) 0 1 (λ v. load globals (one v))  -- LDO
+    ∷ row 134 (B ∷ []) 0 1 (λ v. address globals (one v))  -- LAO
+    ∷ row 135 (B ∷ []) 0 1 (λ v. load (up 0) (one v))  -- LDL
+    ∷ row 136 (DB ∷ B ∷ []) 0 1 (λ v. address (up (one v)) (two v))  -- LDA
+    ∷ row 137 (DB ∷ B ∷ []) 0 1 (λ v. load (up (one v)) (two v))  -- LOD
+    ∷ row 138 (SB ∷ []) 0 0 (λ v. jump (one v))  -- UJP
+    ∷ row 139 (W ∷ []) 0 0 (λ v. jump (one v))  -- JPL
+    ∷ row 140 [] 2 1 (λ _. binary mulOf)  -- MPI
+    ∷ row 141 [] 2 1 (λ _. division quotOf)  -- DVI
+    ∷ gap 142 142
+    ∷ row 143 [] 2 1 (λ _. division remOf)  -- MODI
+    ∷ row 144 (UB ∷ []) 0 0 (λ v. call (up 0) (one v))  -- CPL
+    ∷ row 145 (UB ∷ []) 0 0 (λ v. call globals (one v))  -- CPG
+    ∷ row 146 (DB ∷ UB ∷ []) 0 0 (λ v. call (up (one v)) (two v))  -- CPI
+    ∷ gap 147 149
+    ∷ row 150 (B ∷ []) 0 0 (λ v. return (one v))  -- RPU
+    ∷ gap 151 151
+    ∷ row 152 [] 0 1 (λ _. constant 0)  -- LDCN: NIL is 0
+    ∷ gap 153 155
+    ∷ row 156 [] 0 0 (λ _. nothing)  -- NOP
+    ∷ gap 157 159
+    ∷ row 160 [] 2 1 (λ _. binary orOf)  -- LOR
+    ∷ row 161 [] 2 1 (λ _. binary andOf)  -- LAND
+    ∷ row 162 [] 2 1 (λ _. binary addOf)  -- ADI
+    ∷ row 163 [] 2 1 (λ _. binary subOf)  -- SBI
+    ∷ row 164 (B ∷ []) 1 0 (λ v. store (up 0) (one v))  -- STL
+    ∷ row 165 (B ∷ []) 1 0 (λ v. store globals (one v))  -- SRO
+    ∷ row 166 (DB ∷ B ∷ []) 1 0 (λ v. store (up (one v)) (two v))  -- STR
+    ∷ gap 167 172
+    ∷ row 173 (B ∷ []) 0 1 (λ v. load (up 1) (one v))  -- SLOD1
+    ∷ row 174 (B ∷ []) 0 1 (λ v. load (up 2) (one v))  -- SLOD2
+    ∷ gap 175 175
+    ∷ row 176 [] 2 1 (λ _. binary eqOf)  -- EQUI
+    ∷ row 177 [] 2 1 (λ _. binary neOf)  -- NEQI
+    ∷ row 178 [] 2 1 (λ _. binary leqOf)  -- LEQI
+    ∷ row 179 [] 2 1 (λ _. binary geqOf)  -- GEQI
+    ∷ row 180 [] 2 1 (λ _. binary leuOf)  -- LEUSW
+    ∷ row 181 [] 2 1 (λ _. binary geuOf)  -- GEUSW
+    ∷ gap 182 188
+    ∷ row 189 [] 2 2 (λ _. swap)  -- SWAP
+    ∷ gap 190 195
+    ∷ row 196 [] 2 0 (λ _. indirect)  -- STO
+    ∷ gap 197 202
+    ∷ row 203 [] 3 1 (λ _. subrange)  -- CHK
+    ∷ gap 204 211
+    ∷ row 212 (SB ∷ []) 1 0 (λ v. jump-if 0 (one v))  -- FJP
+    ∷ row 213 (W ∷ []) 1 0 (λ v. jump-if 0 (one v))  -- FJPL
+    ∷ gap 214 223
+    ∷ row 224 [] 1 1 (λ _. unary magOf)  -- ABI
+    ∷ row 225 [] 1 1 (λ _. unary negOf)  -- NGI
+    ∷ row 226 [] 1 2 (λ _. duplicate)  -- DUP1
+    ∷ gap 227 228
+    ∷ row 229 [] 1 1 (λ _. unary notOf)  -- LNOT
+    ∷ row 230 (B ∷ []) 1 1 (λ v. index (one v))  -- IND
+    ∷ gap 231 236
+    ∷ row 237 [] 1 1 (λ _. unary incOf)  -- INCI
+    ∷ row 238 [] 1 1 (λ _. unary decOf)  -- DECI
+    ∷ row 239 (UB ∷ []) 0 0 (λ v. call (up 1) (one v))  -- SCPI1
+    ∷ row 240 (UB ∷ []) 0 0 (λ v. call (up 2) (one v))  -- SCPI2
+    ∷ row 241 (SB ∷ []) 1 0 (λ v. jump-if 1 (one v))  -- TJP
+    ∷ []
+
+-- The lines stand in the order of the numbers, from 0 on, with no number left out and none twice; 242 to 255 are not carried.
+unfoldable pub consecutive : ℕ → List Line → Bool
+consecutive n [] = eqb n 242
+consecutive n (line ∷ lines) = eqb (line .from) n && (leb n (line .to) && consecutive (line .to + 1) lines)
+
+-- the row of a byte: that of the first line that reaches it, and past the last line none is carried
+unfoldable pub rowIn : List Line → ℕ → Row
+rowIn [] b = uncarried
+rowIn (line ∷ lines) b = cond (leb b (line .to)) (line .row-of b) (rowIn lines b)
 
 unfoldable pub opcode : ℕ → Row
-opcode b =
-    to 31 b (carried [] 0 1 (λ _. constant b))  -- SLDC
-    (to 47 b (carried [] 0 1 (λ _. load (up 0) (b - 31)))  -- SLDL
-    (to 63 b (carried [] 0 1 (λ _. load globals (b - 47)))  -- SLDO
-    (to 95 b uncarried
-    (to 103 b (carried [] 0 1 (λ _. address (up 0) (b - 95)))  -- SLLA
-    (to 111 b (carried [] 1 0 (λ _. store (up 0) (b - 103)))  -- SSTL
-    (to 119 b uncarried
-    (to 127 b (carried [] 1 1 (λ _. index (b - 120)))  -- SIND
-    (to 128 b (carried (UB ∷ []) 0 1 (λ v. constant (one v)))  -- LDCB
-    (to 129 b (carried (W ∷ []) 0 1 (λ v. constant (one v)))  -- LDCI
-    (to 130 b (carried (B ∷ []) 0 1 (λ v. pool-offset (one v)))  -- LCO
-    (to 131 b uncarried
-    (to 132 b (carried (B ∷ []) 0 1 (λ v. address (up 0) (one v)))  -- LLA
-    (to 133 b (carried (B ∷ []) 0 1 (λ v. load globals (one v)))  -- LDO
-    (to 134 b (carried (B ∷ []) 0 1 (λ v. address globals (one v)))  -- LAO
-    (to 135 b (carried (B ∷ []) 0 1 (λ v. load (up 0) (one v)))  -- LDL
-    (to 136 b (carried (DB ∷ B ∷ []) 0 1 (λ v. address (up (one v)) (two v)))  -- LDA
-    (to 137 b (carried (DB ∷ B ∷ []) 0 1 (λ v. load (up (one v)) (two v)))  -- LOD
-    (to 138 b (carried (SB ∷ []) 0 0 (λ v. jump (one v)))  -- UJP
-    (to 139 b (carried (W ∷ []) 0 0 (λ v. jump (one v)))  -- JPL
-    (to 140 b (carried [] 2 1 (λ _. binary mulOf))  -- MPI
-    (to 141 b (carried [] 2 1 (λ _. division quotOf))  -- DVI
-    (to 142 b uncarried
-    (to 143 b (carried [] 2 1 (λ _. division remOf))  -- MODI
-    (to 144 b (carried (UB ∷ []) 0 0 (λ v. call (up 0) (one v)))  -- CPL
-    (to 145 b (carried (UB ∷ []) 0 0 (λ v. call globals (one v)))  -- CPG
-    (to 146 b (carried (DB ∷ UB ∷ []) 0 0 (λ v. call (up (one v)) (two v)))  -- CPI
-    (to 149 b uncarried
-    (to 150 b (carried (B ∷ []) 0 0 (λ v. return (one v)))  -- RPU
-    (to 151 b uncarried
-    (to 152 b (carried [] 0 1 (λ _. constant 0))  -- LDCN: NIL is 0
-    (to 155 b uncarried
-    (to 156 b (carried [] 0 0 (λ _. nothing))  -- NOP
-    (to 159 b uncarried
-    (to 160 b (carried [] 2 1 (λ _. binary orOf))  -- LOR
-    (to 161 b (carried [] 2 1 (λ _. binary andOf))  -- LAND
-    (to 162 b (carried [] 2 1 (λ _. binary addOf))  -- ADI
-    (to 163 b (carried [] 2 1 (λ _. binary subOf))  -- SBI
-    (to 164 b (carried (B ∷ []) 1 0 (λ v. store (up 0) (one v)))  -- STL
-    (to 165 b (carried (B ∷ []) 1 0 (λ v. store globals (one v)))  -- SRO
-    (to 166 b (carried (DB ∷ B ∷ []) 1 0 (λ v. store (up (one v)) (two v)))  -- STR
-    (to 172 b uncarried
-    (to 173 b (carried (B ∷ []) 0 1 (λ v. load (up 1) (one v)))  -- SLOD1
-    (to 174 b (carried (B ∷ []) 0 1 (λ v. load (up 2) (one v)))  -- SLOD2
-    (to 175 b uncarried
-    (to 176 b (carried [] 2 1 (λ _. binary eqOf))  -- EQUI
-    (to 177 b (carried [] 2 1 (λ _. binary neOf))  -- NEQI
-    (to 178 b (carried [] 2 1 (λ _. binary leqOf))  -- LEQI
-    (to 179 b (carried [] 2 1 (λ _. binary geqOf))  -- GEQI
-    (to 180 b (carried [] 2 1 (λ _. binary leuOf))  -- LEUSW
-    (to 181 b (carried [] 2 1 (λ _. binary geuOf))  -- GEUSW
-    (to 188 b uncarried
-    (to 189 b (carried [] 2 2 (λ _. swap))  -- SWAP
-    (to 195 b uncarried
-    (to 196 b (carried [] 2 0 (λ _. indirect))  -- STO
-    (to 202 b uncarried
-    (to 203 b (carried [] 3 1 (λ _. subrange))  -- CHK
-    (to 211 b uncarried
-    (to 212 b (carried (SB ∷ []) 1 0 (λ v. jump-if 0 (one v)))  -- FJP
-    (to 213 b (carried (W ∷ []) 1 0 (λ v. jump-if 0 (one v)))  -- FJPL
-    (to 223 b uncarried
-    (to 224 b (carried [] 1 1 (λ _. unary magOf))  -- ABI
-    (to 225 b (carried [] 1 1 (λ _. unary negOf))  -- NGI
-    (to 226 b (carried [] 1 2 (λ _. duplicate))  -- DUP1
-    (to 228 b uncarried
-    (to 229 b (carried [] 1 1 (λ _. unary notOf))  -- LNOT
-    (to 230 b (carried (B ∷ []) 1 1 (λ v. index (one v)))  -- IND
-    (to 236 b uncarried
-    (to 237 b (carried [] 1 1 (λ _. unary incOf))  -- INCI
-    (to 238 b (carried [] 1 1 (λ _. unary decOf))  -- DECI
-    (to 239 b (carried (UB ∷ []) 0 0 (λ v. call (up 1) (one v)))  -- SCPI1
-    (to 240 b (carried (UB ∷ []) 0 0 (λ v. call (up 2) (one v)))  -- SCPI2
-    (to 241 b (carried (SB ∷ []) 1 0 (λ v. jump-if 1 (one v)))  -- TJP
-    uncarried))))))))))))))))))))))))))))))))))))))))))))))))))))))))))))))))))))))))
+opcode b = rowIn appendixB b

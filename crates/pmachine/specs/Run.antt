@@ -34,6 +34,6 @@ run s shared zero t = t
 run s shared (suc k) t = cond (isReady (t .kind)) (run s shared k (step s shared t)) t
 
 -- "It returns the steps done. A step that faults and the return that finishes count. k = 0 and a session not ready give 0."
-unfoldable pub count : List ℕ → List ℕ → ℕ → State → ℕ
-count s shared zero t = 0
-count s shared (suc k) t = cond (isReady (t .kind)) (suc (count s shared k (step s shared t))) 0
+unfoldable pub stepsDone : List ℕ → List ℕ → ℕ → State → ℕ
+stepsDone s shared zero t = 0
+stepsDone s shared (suc k) t = cond (isReady (t .kind)) (suc (stepsDone s shared k (step s shared t))) 0

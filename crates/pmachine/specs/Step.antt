@@ -89,17 +89,17 @@ moved r sp next = record { sp = sp; m = r .m; counter = next; routine = r .routi
 
 -- A check: the fault it gives, and whether it fails.
 infix 68 _when_
-pub data Check : Type 0 where
-  _when_ : ℕ → Bool → Check
+pub data Ground : Type 0 where
+  _when_ : ℕ → Bool → Ground
 
-unfoldable pub failing : ℕ → List Check → Bool
-failing n [] = false
-failing n (k when b ∷ checks) = cond (eqb n k) b (failing n checks)
+unfoldable pub groundFor : ℕ → List Ground → Bool
+groundFor n [] = false
+groundFor n (k when b ∷ checks) = cond (eqb n k) b (groundFor n checks)
 
 -- the fault of the first number whose check fails, or else what happens
-unfoldable pub first : List ℕ → List Check → Outcome → Outcome
-first [] checks done = done
-first (n ∷ order) checks done = cond (failing n checks) (fault n) (first order checks done)
+unfoldable pub firstFault : List ℕ → List Ground → Outcome → Outcome
+firstFault [] checks done = done
+firstFault (n ∷ order) checks done = cond (groundFor n checks) (fault n) (firstFault order checks done)
 
 -- "This is also the order of checks"; 1 and 2 are the decoder's, which comes before.
 abbrev pub order : List ℕ
@@ -127,7 +127,7 @@ module _ (s shared w : List ℕ) (r : Registers) where
   mark = markAt w (r .m)
 
   -- what each meaning is judged for, besides the words on the stack and the room for those it gives
-  unfoldable pub asks : ℕ → Meaning → List Check
+  unfoldable pub asks : ℕ → Meaning → List Ground
   asks next (constant v) = []
   asks next (pool-offset b) = 6 when (eqb (pool s) 0 || leb (words s) (pool s + b)) ∷ []
   asks next (load p x) = 9 when isBroken (link p) ∷ 6 when not (private w (offset p x)) ∷ []
@@ -179,7 +179,7 @@ module _ (s shared w : List ℕ) (r : Registers) where
   -- 3, "too few words on the stack"; 4, "SP after the step would lie below 6+G"; and what the meaning asks: the first that fails, in order
   unfoldable pub outcome : Instruction → Outcome
   outcome i =
-      first order
+      firstFault order
       (3 when ltb (length w) (r .sp + i .taken) ∷ 4 when below (floor s) (done i) ∷ asks (i .next) (i .does)) (done i)
 
   unfoldable pub judgedBy : Decoded → Outcome

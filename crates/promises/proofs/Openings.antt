@@ -24,7 +24,7 @@ use Rattle.bench.specs.declared.Answer.the-variants.{Done, Refused}
 use Rattle.basis.specs.Checks.{check}
 use Rattle.basis.proofs.Checks.{Passing}
 use Rattle.bench.specs.Answer.{numberOf, Result, refusing}
-use Rattle.bench.specs.Entries.{isSound, loadedAt, lenOk, first, unused, recordFor, clearOf, lowest, gapAt, gapOf, gapFor, found, placeIn, cleared, fresh, opens, openOf}
+use Rattle.bench.specs.Entries.{isSound, loadedAt, lenOk, firstPlace, unused, recordFor, clearOf, lowest, gapAt, gapOf, gapFor, found, placeIn, cleared, fresh, opens, openOf}
 use Rattle.bench.proofs.Refusing.{passes, stops, by-checks}
 use Rattle.bench.proofs.Lowest.{first-at, lowest-passes}
 use Rattle.bench.proofs.Opens.{checksOf}
@@ -60,11 +60,11 @@ lowest-full p (suc f) a e b g h = go (p a) refl (λ u k. lowest-full p f (a + 1)
         by (no q) = let z : b ≡ a = omega arith in rw z w
 
 -- below the first that passes, none does
-first-least : {A : Type 0} (p : A → Bool) (l : List A) (d : A) (j : ℕ) → j < first p l → p (getD l j d) ≡ false
+first-least : {A : Type 0} (p : A → Bool) (l : List A) (d : A) (j : ℕ) → j < firstPlace p l → p (getD l j d) ≡ false
 first-least p [] d j h = absurd (omega arith)
 first-least p (x ∷ l) d j h = go (p x) refl j h (λ i o. first-least p l d i o)
   where
-    go : (b : Bool) → p x ≡ b → (i : ℕ) → i < cond b 0 (first p l + 1) → ((k : ℕ) → k < first p l → p (getD l k d) ≡ false) → p (getD (x ∷ l) i d) ≡ false
+    go : (b : Bool) → p x ≡ b → (i : ℕ) → i < cond b 0 (firstPlace p l + 1) → ((k : ℕ) → k < firstPlace p l → p (getD l k d) ≡ false) → p (getD (x ∷ l) i d) ≡ false
     go true e i o r = absurd (omega arith)
     go false e zero o r = e
     go false e (suc i) o r = r i (omega arith)

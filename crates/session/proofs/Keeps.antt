@@ -7,9 +7,9 @@ use Prim.Native.Nat.{ℕ, _+_, _≤_}
 use lib.ListN.{length}
 use Rattle.segment.specs.Judge.{judged}
 use Rattle.basis.specs.Checks.{passed}
-use Rattle.pmachine.specs.State.{Kind as Kinds, ready, finished, faulted, State as Machine}
+use Rattle.pmachine.specs.State.{Kind as Kinds, ready, finished, faulted, State}
 use Rattle.pmachine.specs.Sound.{inRange, starting}
-use Rattle.pmachine.specs.Run.{run, count}
+use Rattle.pmachine.specs.Run.{run, stepsDone}
 use Rattle.pmachine.proofs.Accepted.{loaded}
 use Rattle.pmachine.proofs.Ranges.{in-range}
 use Rattle.pmachine.proofs.Runs.{run-length as machine-length, run-add as machine-add, count-add as machine-counts, run-none as machine-none, count-none as machine-count-none}
@@ -18,7 +18,7 @@ use Rattle.machine.specs.declared.Kind.{Kind}
 use Rattle.machine.specs.declared.Kind.the-variants.{Ready, Finished, Faulted}
 use Rattle.machine.specs.declared.Cpu.{Cpu}
 use Rattle.machine.specs.Memory.{kindOf}
-use Rattle.session.specs.Session.{State, stateOf, stateFrom, kindFrom, cpuFrom, floorOf, startOf, cpuOk, runOf, countOf}
+use Rattle.session.specs.Session.{SessionState, stateOf, stateFrom, kindFrom, cpuFrom, floorOf, startOf, cpuOk, runOf, countOf}
 
 -- there and back
 
@@ -32,44 +32,44 @@ kind-from-of Ready = refl
 kind-from-of Finished = refl
 kind-from-of (Faulted n place) = refl
 
-pub of-from : (t : Machine) → stateOf (stateFrom t) ≡ t
+pub of-from : (t : State) → stateOf (stateFrom t) ≡ t
 of-from t = λ i. record { words = t .words; registers = t .registers; kind = kind-of-from (t .kind) i }
 
-pub from-of : (st : State) → stateFrom (stateOf st) ≡ st
+pub from-of : (st : SessionState) → stateFrom (stateOf st) ≡ st
 from-of st = λ i. record { words = st .words; cpu = record { kind = kind-from-of (st .cpu .kind) i; regs = st .cpu .regs } }
 
 -- a run keeps the region's length
-pub run-length : (k : ℕ) (code shared : List ℕ) (st : State) → length (runOf k code shared st .words) ≡ length (st .words)
+pub run-length : (k : ℕ) (code shared : List ℕ) (st : SessionState) → length (runOf k code shared st .words) ≡ length (st .words)
 unfolding runOf
 run-length k code shared st = machine-length code shared k (stateOf st)
 
 -- and the registers and kind in their ranges
-pub run-keeps : (k : ℕ) (code shared : List ℕ) (len : ℕ) (st : State) → judged code ≡ passed → len ≤ 32768 → length (st .words) ≡ len → cpuOk code len (st .cpu) ≡ true
+pub run-keeps : (k : ℕ) (code shared : List ℕ) (len : ℕ) (st : SessionState) → judged code ≡ passed → len ≤ 32768 → length (st .words) ≡ len → cpuOk code len (st .cpu) ≡ true
     → cpuOk code len (runOf k code shared st .cpu) ≡ true
 unfolding cpuOk runOf
 run-keeps k code shared len st j small l h =
     let t = run code shared k (stateOf st) in
-    subst (λ (x : Machine). inRange code len (x .registers) (x .kind) ≡ true) (sym (of-from t))
+    subst (λ (x : State). inRange code len (x .registers) (x .kind) ≡ true) (sym (of-from t))
     (machine-keeps code shared len (loaded code j) k (stateOf st) l h)
 
 -- two turns are one turn of both their steps
-pub run-add : (a b : ℕ) (code shared : List ℕ) (st : State) → runOf (a + b) code shared st ≡ runOf b code shared (runOf a code shared st)
+pub run-add : (a b : ℕ) (code shared : List ℕ) (st : SessionState) → runOf (a + b) code shared st ≡ runOf b code shared (runOf a code shared st)
 unfolding runOf
 run-add a b code shared st =
     ap stateFrom (machine-add code shared a b (stateOf st) ∙ ap (run code shared b) (sym (of-from (run code shared a (stateOf st)))))
 
 -- and their counts add up
-pub count-add : (a b : ℕ) (code shared : List ℕ) (st : State) → countOf (a + b) code shared st ≡ countOf a code shared st + countOf b code shared (runOf a code shared st)
+pub count-add : (a b : ℕ) (code shared : List ℕ) (st : SessionState) → countOf (a + b) code shared st ≡ countOf a code shared st + countOf b code shared (runOf a code shared st)
 unfolding runOf countOf
 count-add a b code shared st =
     machine-counts code shared a b (stateOf st)
-    ∙ ap (λ (x : Machine). count code shared a (stateOf st) + count code shared b x) (sym (of-from (run code shared a (stateOf st))))
+    ∙ ap (λ (x : State). stepsDone code shared a (stateOf st) + stepsDone code shared b x) (sym (of-from (run code shared a (stateOf st))))
 
-pub run-none : (code shared : List ℕ) (st : State) → runOf 0 code shared st ≡ st
+pub run-none : (code shared : List ℕ) (st : SessionState) → runOf 0 code shared st ≡ st
 unfolding runOf
 run-none code shared st = ap stateFrom (machine-none code shared (stateOf st)) ∙ from-of st
 
-pub count-none : (code shared : List ℕ) (st : State) → countOf 0 code shared st ≡ 0
+pub count-none : (code shared : List ℕ) (st : SessionState) → countOf 0 code shared st ≡ 0
 unfolding countOf
 count-none code shared st = machine-count-none code shared (stateOf st)
 

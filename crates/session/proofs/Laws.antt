@@ -8,13 +8,13 @@ use lib.ListN.{length, take}
 use Rattle.segment.specs.Judge.{judged}
 use Rattle.basis.specs.Checks.{passed}
 use Rattle.pmachine.specs.Sound.{Loaded, Ranged}
-use Rattle.pmachine.specs.State.{State as Machine}
+use Rattle.pmachine.specs.State.{State}
 use Rattle.pmachine.proofs.Accepted.{loaded}
 use Rattle.pmachine.proofs.Ranges.{ranged}
 use Rattle.plan.specs.Answer.{regsOf}
 use Rattle.machine.specs.declared.Cpu.{Cpu}
 use Rattle.machine.specs.declared.Turned.{Turned}
-use Rattle.machine.specs.Memory.{kindOf, Placed, RanTo as Ran}
+use Rattle.machine.specs.Memory.{kindOf, Placed, TurnedTo}
 use Rattle.session.specs.Session.{cpuFrom, kindFrom, cpuOk, runOf, countOf, RanTo}
 use Rattle.session.proofs.Keeps.{kind-from-of}
 
@@ -31,7 +31,7 @@ asked code n s base e c j h small few o₁ o₂ o₃ = (
 back : (c : Cpu) → cpuFrom (regsOf (c .regs)) (kindOf (c .kind)) ≡ c
 back c = λ i. record { kind = kind-from-of (c .kind) i; regs = c .regs }
 
-pub ran : (code m : List ℕ) (s base e k : ℕ) (c : Cpu) (r : Turned) (m′ : List ℕ) → Ran code m s base e k (regsOf (c .regs)) (kindOf (c .kind)) r m′ → RanTo code m s base e k c r m′
+pub ran : (code m : List ℕ) (s base e k : ℕ) (c : Cpu) (r : Turned) (m′ : List ℕ) → TurnedTo code m s base e k (regsOf (c .regs)) (kindOf (c .kind)) r m′ → RanTo code m s base e k c r m′
 unfolding runOf countOf
 ran code m s base e k c r m′ h =
     record {

@@ -6,10 +6,10 @@ use mathlib.Core.Bool.{Bool}
 use Prim.Native.Nat.{ℕ, _+_}
 use lib.ListN.{take}
 use Rattle.basis.specs.Part.{part, splice}
-use Rattle.pmachine.specs.State.{Registers, Kind as Kinds, ready, finished, faulted, State as Machine}
+use Rattle.pmachine.specs.State.{Registers, Kind as Kinds, ready, finished, faulted, State}
 use Rattle.pmachine.specs.Step.{floor}
 use Rattle.pmachine.specs.Sound.{kindInRange, inRange, starting}
-use Rattle.pmachine.specs.Run.{run, count}
+use Rattle.pmachine.specs.Run.{run, stepsDone}
 use Rattle.plan.specs.declared.Regs.{Regs}
 use Rattle.plan.specs.Answer.{regsOf}
 use Rattle.machine.specs.declared.Kind.{Kind}
@@ -19,12 +19,12 @@ use Rattle.machine.specs.declared.Turned.{Turned}
 use Rattle.machine.specs.Memory.{kindOf}
 
 -- its words, and its registers and kind
-pub record State : Type 0 where
+pub record SessionState : Type 0 where
   pub words : List ℕ
   pub cpu : Cpu
 
 -- the machine's state that it is, and back
-abbrev pub stateOf : State → Machine
+abbrev pub stateOf : SessionState → State
 stateOf st = record { words = st .words; registers = regsOf (st .cpu .regs); kind = kindOf (st .cpu .kind) }
 
 abbrev pub kindFrom : Kinds → Kind
@@ -35,7 +35,7 @@ kindFrom (faulted n place) = Faulted n place
 abbrev pub cpuFrom : Registers → Kinds → Cpu
 cpuFrom r k = record { kind = kindFrom k; regs = record { sp = r .sp; m = r .m; counter = r .counter; routine = r .routine } }
 
-abbrev pub stateFrom : Machine → State
+abbrev pub stateFrom : State → SessionState
 stateFrom t = record { words = t .words; cpu = cpuFrom (t .registers) (t .kind) }
 
 -- the lowest stack pointer, 6+G
@@ -58,15 +58,15 @@ unfoldable pub cpuOk : List ℕ → ℕ → Cpu → Bool
 cpuOk code len c = inRange code len (regsOf (c .regs)) (kindOf (c .kind))
 
 -- k steps of the documented machine on this segment and these shared words, or fewer where the session is no longer ready
-unfoldable pub runOf : ℕ → List ℕ → List ℕ → State → State
+unfoldable pub runOf : ℕ → List ℕ → List ℕ → SessionState → SessionState
 runOf k code shared st = stateFrom (run code shared k (stateOf st))
 
 -- the steps done
-unfoldable pub countOf : ℕ → List ℕ → List ℕ → State → ℕ
-countOf k code shared st = count code shared k (stateOf st)
+unfoldable pub countOf : ℕ → List ℕ → List ℕ → SessionState → ℕ
+countOf k code shared st = stepsDone code shared k (stateOf st)
 
 -- a session's state, of a memory in which its region is the words from base up to e
-abbrev pub stAt : ℕ → ℕ → List ℕ → Cpu → State
+abbrev pub stAt : ℕ → ℕ → List ℕ → Cpu → SessionState
 stAt base e m c = record { words = part base e m; cpu = c }
 
 -- k steps, on the memory: the region is that of the run on the region alone, and no other word changes

@@ -3,9 +3,9 @@
 -- Below: session, machine, segment. The laws that go with it are in proofs/Below.
 use mathlib.Core.List.{List}
 use Prim.Native.Nat.{ℕ}
-use Rattle.session.specs.Session.{State}
+use Rattle.session.specs.Session.{SessionState}
 use Rattle.machine.specs.declared.Cpu.{Cpu}
-pub use Rattle.session.specs.Session.{State}
+pub use Rattle.session.specs.Session.{SessionState}
 pub use Rattle.machine.specs.declared.Cpu.{Cpu}
 pub use Rattle.machine.specs.declared.Turned.{Turned}
 pub use Rattle.segment.specs.declared.Routine.{Routine}
@@ -15,9 +15,9 @@ pub use Rattle.session.specs.Session.{floorOf, noCpu, RanTo}
 unfoldable pub use Rattle.session.specs.Session.{startOf, cpuOk, runOf, countOf}
 
 -- a session's state: its words, and its registers and kind
-abbrev pub stateOf : List ℕ → Cpu → State
+abbrev pub stateOf : List ℕ → Cpu → SessionState
 stateOf words c = record { words = words; cpu = c }
 
 -- the registers and kind of a state
-abbrev pub cpuOf : State → Cpu
+abbrev pub cpuOf : SessionState → Cpu
 cpuOf st = st .cpu

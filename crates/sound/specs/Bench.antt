@@ -5,7 +5,7 @@ use mathlib.Core.Bool.{false}
 use Prim.Native.Nat.{ℕ, _+_}
 use lib.ListN.{getD, take, drop}
 use Rattle.basis.specs.Part.{part}
-use Rattle.sound.specs.Below.{State, Cpu, stateOf, noCpu}
+use Rattle.sound.specs.Below.{SessionState, Cpu, stateOf, noCpu}
 use Rattle.sound.specs.declared.Slot.{Slot}
 use Rattle.sound.specs.declared.Session.{Session}
 use Rattle.sound.specs.declared.Bench.{Bench}
@@ -52,7 +52,7 @@ wordsOf w se = part (se .base) (se .base + se .len) (w .mem)
 abbrev pub codeAt : List ℕ → World → ℕ → List ℕ
 codeAt store w i = codeOf store (slotOf (w .bench .slots) (sessionAt w i))
 
-abbrev pub stateAt : World → ℕ → State
+abbrev pub stateAt : World → ℕ → SessionState
 stateAt w i = stateOf (wordsOf w (sessionAt w i)) (sessionAt w i .cpu)
 
 -- a session's record at other registers: slot and region stay

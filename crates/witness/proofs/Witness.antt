@@ -8,14 +8,14 @@ use Rattle.basis.specs.Bools.{every, inside}
 use Rattle.basis.specs.Part.{part, splice}
 use Rattle.operand.specs.Bytes.{wordBy}
 use Rattle.operand.specs.Operand.{given, fetched}
-use Rattle.segment.specs.Head.{least, word, dict, reloc, pool, count as routines, entry, datasize, exitic, start, sexBytes}
+use Rattle.segment.specs.Head.{least, word, dict, reloc, pool, count, entry, datasize, exitic, start, sexBytes}
 use Rattle.basis.specs.Checks.{ruling}
 use Rattle.segment.specs.Judge.{headChecks, routineChecks, routinesFrom, checks, judged}
-use Rattle.pmachine.specs.Opcode.{opcode}
+use Rattle.pmachine.specs.Opcode.{opcode, rowIn, appendixB}
 use Rattle.pmachine.specs.Decoding.{joined, andThen, operands, lawful, allLawful, decodedWith, rowDecoded, decode}
-use Rattle.pmachine.specs.Step.{markAt, resumes, failing, first, asks, effect, outcome, judgedBy, judge}
+use Rattle.pmachine.specs.Step.{markAt, resumes, groundFor, firstFault, asks, effect, outcome, judgedBy, judge}
 use Rattle.pmachine.specs.Sound.{kindInRange, inRange, starting}
-use Rattle.pmachine.specs.Run.{isReady, written, settled, step, run, count}
+use Rattle.pmachine.specs.Run.{isReady, written, settled, step, run, stepsDone}
 use Rattle.session.specs.Session.{startOf, cpuOk, runOf, countOf}
 use Rattle.sound.specs.Bench.{World, worldOf}
 use Rattle.sound.specs.Sound.{limitsOk, slotOk, placed, apart, sessionOk, soundB, Sound}
@@ -50,7 +50,7 @@ ran-sound =
     2 9
 
 pub witness : Witness
-unfolding segment store loaded opened ran openings full every inside part splice wordBy given fetched least word dict reloc pool routines entry datasize exitic start sexBytes headChecks routineChecks routinesFrom checks ruling judged opcode joined andThen operands lawful allLawful decodedWith rowDecoded decode markAt resumes failing first asks effect outcome judgedBy judge kindInRange inRange starting isReady written settled step run count startOf cpuOk runOf countOf limitsOk slotOk placed apart sessionOk soundB refusing newOf loadOf lenOk gapAt gapOf openOf turnOf closeOf
+unfolding segment store loaded opened ran openings full every inside part splice wordBy given fetched least word dict reloc pool count entry datasize exitic start sexBytes headChecks routineChecks routinesFrom checks ruling judged opcode rowIn appendixB joined andThen operands lawful allLawful decodedWith rowDecoded decode markAt resumes groundFor firstFault asks effect outcome judgedBy judge kindInRange inRange starting isReady written settled step run stepsDone startOf cpuOk runOf countOf limitsOk slotOk placed apart sessionOk soundB refusing newOf loadOf lenOk gapAt gapOf openOf turnOf closeOf
 witness =
     record {
       sound = ran-sound;

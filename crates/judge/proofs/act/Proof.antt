@@ -6,7 +6,7 @@ use borrow.Author.Needs.{needs}
 use Rattle.basis.specs.Integer.{mulOf, quotOf, remOf, orOf, andOf, addOf, subOf, eqOf, neOf, leqOf, geqOf, leuOf, geuOf, magOf, negOf, notOf, incOf, decOf}
 use Rattle.operand.specs.Operand.{UB, SB, DB, B, W}
 use Rattle.pmachine.specs.Meaning.{globals, up}
-use Rattle.pmachine.specs.Opcode.{opcode}
+use Rattle.pmachine.specs.Opcode.{opcode, rowIn, appendixB}
 use Rattle.plan.proofs.Decodes.{lawful-UB, lawful-SB, lawful-B, lawful-W, fetched-DB, here, at-globals, walked, strayed}
 use Rattle.plan.proofs.Arms.{sldc, sldl, sldo, gap-low, slla, sstl, gap-high, sind, keys, no-key, bad, moves, swaps, enough, lacks, con, pol, bin, un, div, dup, swp, nop, chk, sta, ind, lod, adr, sto, jmp, bra, cal, ret, bad-lod, bad-adr, bad-sto, bad-cal}
 use Rattle.judge.proofs.Ways.{unknown, bare, cut, one, cut-second, deep, both, some-room, m-in, sp-fits, m-fits, rec-fits, top, second, near, wide, slim}
@@ -23,7 +23,7 @@ enum-told : tie.Need-enum-told
 enum-told c = c .match2 .keys2
 
 returns : tie.Need-returns
-unfolding opcode
+unfolding opcode rowIn appendixB
 returns c =
     let a = c .before .before .before .before .before .before .before .args in
     cut (a .seg .now) (a .shared .now) (a .region .now) (a .r) (a .at) (a .op) 0 1 _ UB _ (ap opcode (c .before .before .before .match .keys1)) _ (c .before .before .unsigned .ensures) _ (c .enum-told .given .1)
@@ -42,7 +42,7 @@ enum-told-2 : tie.Need-enum-told-2
 enum-told-2 c = c .match3 .keys2
 
 returns-2 : tie.Need-returns-2
-unfolding opcode
+unfolding opcode rowIn appendixB
 returns-2 c =
     let a = c .before .before .before .before .before .before .before .args in
     cut (a .seg .now) (a .shared .now) (a .region .now) (a .r) (a .at) (a .op) 0 1 _ W _ (ap opcode (c .before .before .before .match .keys2)) _ (c .before .before .wide .ensures) _ (c .enum-told2 .given .1)
@@ -61,7 +61,7 @@ enum-told-3 : tie.Need-enum-told-3
 enum-told-3 c = c .match4 .keys2
 
 returns-3 : tie.Need-returns-3
-unfolding opcode
+unfolding opcode rowIn appendixB
 returns-3 c =
     let a = c .before .before .before .before .before .before .before .args in
     cut (a .seg .now) (a .shared .now) (a .region .now) (a .r) (a .at) (a .op) 0 1 _ B _ (ap opcode (c .before .before .before .match .keys3)) _ (c .before .before .big .ensures) _ (c .enum-told3 .given .1)
@@ -79,7 +79,7 @@ enum-told-4 : tie.Need-enum-told-4
 enum-told-4 c = c .match5 .keys2
 
 returns-4 : tie.Need-returns-4
-unfolding opcode
+unfolding opcode rowIn appendixB
 returns-4 c =
     let a = c .before .before .before .before .before .before .before .args in
     cut (a .seg .now) (a .shared .now) (a .region .now) (a .r) (a .at) (a .op) 0 1 _ B _ (ap opcode (c .before .before .before .match .keys4)) _ (c .before .before .big2 .ensures) _ (c .enum-told4 .given .1)
@@ -98,7 +98,7 @@ enum-told-5 : tie.Need-enum-told-5
 enum-told-5 c = c .match6 .keys2
 
 returns-5 : tie.Need-returns-5
-unfolding opcode
+unfolding opcode rowIn appendixB
 returns-5 c =
     let a = c .before .before .before .before .before .before .before .args in
     cut (a .seg .now) (a .shared .now) (a .region .now) (a .r) (a .at) (a .op) 0 1 _ B _ (ap opcode (c .before .before .before .match .keys5)) _ (c .before .before .big3 .ensures) _ (c .enum-told5 .given .1)
@@ -117,7 +117,7 @@ enum-told-6 : tie.Need-enum-told-6
 enum-told-6 c = c .match7 .keys2
 
 returns-6 : tie.Need-returns-6
-unfolding opcode
+unfolding opcode rowIn appendixB
 returns-6 c =
     let a = c .before .before .before .before .before .before .before .args in
     cut (a .seg .now) (a .shared .now) (a .region .now) (a .r) (a .at) (a .op) 0 1 _ B _ (ap opcode (c .before .before .before .match .keys6)) _ (c .before .before .big4 .ensures) _ (c .enum-told6 .given .1)
@@ -136,7 +136,7 @@ enum-told-7 : tie.Need-enum-told-7
 enum-told-7 c = c .match8 .keys2
 
 returns-7 : tie.Need-returns-7
-unfolding opcode
+unfolding opcode rowIn appendixB
 returns-7 c =
     let a = c .before .before .before .before .before .before .before .args in
     cut (a .seg .now) (a .shared .now) (a .region .now) (a .r) (a .at) (a .op) 0 1 _ B _ (ap opcode (c .before .before .before .match .keys7)) _ (c .before .before .big5 .ensures) _ (c .enum-told7 .given .1)
@@ -155,7 +155,7 @@ enum-told-8 : tie.Need-enum-told-8
 enum-told-8 c = c .match9 .keys2
 
 returns-8 : tie.Need-returns-8
-unfolding opcode
+unfolding opcode rowIn appendixB
 returns-8 c =
     let a = c .before .before .before .before .before .before .before .args in
     cut (a .seg .now) (a .shared .now) (a .region .now) (a .r) (a .at) (a .op) 0 1 _ DB _ (ap opcode (c .before .before .before .match .keys8)) _ (c .before .before .unsigned2 .ensures ∙ sym (fetched-DB _ _)) _ (c .enum-told8 .given .1)
@@ -170,13 +170,13 @@ enum-told-9 : tie.Need-enum-told-9
 enum-told-9 c = c .match10 .keys2
 
 returns-9 : tie.Need-returns-9
-unfolding opcode
+unfolding opcode rowIn appendixB
 returns-9 c =
     let a = c .before .before .before .before .before .before .before .before .before .before .before .args in
     cut-second (a .seg .now) (a .shared .now) (a .region .now) (a .r) (a .at) (a .op) 0 1 _ B (ap opcode (c .before .before .before .before .before .before .before .match .keys8)) _ (c .before .before .before .before .before .before .unsigned2 .ensures) _ _ (c .before .before .before .before .d .given .1) _ (c .before .before .big6 .ensures) _ (c .enum-told9 .given .1)
 
 returns-10 : tie.Need-returns-10
-unfolding opcode
+unfolding opcode rowIn appendixB
 returns-10 c =
     let a = c .before .before .before .before .before .before .before .before .before .before .before .before .before .args in
     deep (a .seg .now) (a .shared .now) (a .region .now) (a .r) (a .at) (a .op) 0 1 _ B (ap opcode (c .before .before .before .before .before .before .before .before .before .match .keys8)) _ (c .before .before .before .before .before .before .before .before .unsigned2 .ensures) _ _ (c .before .before .before .before .before .before .d .given .1) _ (c .before .before .before .before .big6 .ensures) _ _ (c .before .before .a8 .given .1) (c .if1 .taken)
@@ -192,7 +192,7 @@ enum-told-10 : tie.Need-enum-told-10
 enum-told-10 c = c .match11 .keys2
 
 returns-11 : tie.Need-returns-11
-unfolding opcode
+unfolding opcode rowIn appendixB
 returns-11 c =
     let a = c .before .before .before .before .before .before .before .before .before .before .before .before .before .before .before .before .args in
     let p = c .before .before .before .before .before .before .before .before .before .before .before .before .before .before .before .before .pre in
@@ -214,7 +214,7 @@ enum-told-11 : tie.Need-enum-told-11
 enum-told-11 c = c .match12 .keys2
 
 returns-12 : tie.Need-returns-12
-unfolding opcode
+unfolding opcode rowIn appendixB
 returns-12 c =
     let a = c .before .before .before .before .before .before .before .args in
     cut (a .seg .now) (a .shared .now) (a .region .now) (a .r) (a .at) (a .op) 0 1 _ DB _ (ap opcode (c .before .before .before .match .keys9)) _ (c .before .before .unsigned3 .ensures ∙ sym (fetched-DB _ _)) _ (c .enum-told11 .given .1)
@@ -229,13 +229,13 @@ enum-told-12 : tie.Need-enum-told-12
 enum-told-12 c = c .match13 .keys2
 
 returns-13 : tie.Need-returns-13
-unfolding opcode
+unfolding opcode rowIn appendixB
 returns-13 c =
     let a = c .before .before .before .before .before .before .before .before .before .before .before .args in
     cut-second (a .seg .now) (a .shared .now) (a .region .now) (a .r) (a .at) (a .op) 0 1 _ B (ap opcode (c .before .before .before .before .before .before .before .match .keys9)) _ (c .before .before .before .before .before .before .unsigned3 .ensures) _ _ (c .before .before .before .before .d2 .given .1) _ (c .before .before .big7 .ensures) _ (c .enum-told12 .given .1)
 
 returns-14 : tie.Need-returns-14
-unfolding opcode
+unfolding opcode rowIn appendixB
 returns-14 c =
     let a = c .before .before .before .before .before .before .before .before .before .before .before .before .before .args in
     deep (a .seg .now) (a .shared .now) (a .region .now) (a .r) (a .at) (a .op) 0 1 _ B (ap opcode (c .before .before .before .before .before .before .before .before .before .match .keys9)) _ (c .before .before .before .before .before .before .before .before .unsigned3 .ensures) _ _ (c .before .before .before .before .before .before .d2 .given .1) _ (c .before .before .before .before .big7 .ensures) _ _ (c .before .before .a9 .given .1) (c .if2 .taken)
@@ -251,7 +251,7 @@ enum-told-13 : tie.Need-enum-told-13
 enum-told-13 c = c .match14 .keys2
 
 returns-15 : tie.Need-returns-15
-unfolding opcode
+unfolding opcode rowIn appendixB
 returns-15 c =
     let a = c .before .before .before .before .before .before .before .before .before .before .before .before .before .before .before .before .args in
     let p = c .before .before .before .before .before .before .before .before .before .before .before .before .before .before .before .before .pre in
@@ -273,7 +273,7 @@ enum-told-14 : tie.Need-enum-told-14
 enum-told-14 c = c .match15 .keys2
 
 returns-16 : tie.Need-returns-16
-unfolding opcode
+unfolding opcode rowIn appendixB
 returns-16 c =
     let a = c .before .before .before .before .before .before .before .args in
     cut (a .seg .now) (a .shared .now) (a .region .now) (a .r) (a .at) (a .op) 0 0 _ SB _ (ap opcode (c .before .before .before .match .keys10)) _ (c .before .before .signed .ensures) _ (c .enum-told14 .given .1)
@@ -292,7 +292,7 @@ enum-told-15 : tie.Need-enum-told-15
 enum-told-15 c = c .match16 .keys2
 
 returns-17 : tie.Need-returns-17
-unfolding opcode
+unfolding opcode rowIn appendixB
 returns-17 c =
     let a = c .before .before .before .before .before .before .before .args in
     cut (a .seg .now) (a .shared .now) (a .region .now) (a .r) (a .at) (a .op) 0 0 _ W _ (ap opcode (c .before .before .before .match .keys11)) _ (c .before .before .wide2 .ensures) _ (c .enum-told15 .given .1)
@@ -306,7 +306,7 @@ few-requires c κs = let a = c .before .before .before .before .args in let p = 
     (sp-fits _ (a .region .now) _ h l, omega arith)
 
 returns-18 : tie.Need-returns-18
-unfolding opcode
+unfolding opcode rowIn appendixB
 returns-18 c =
     let a = c .before .before .before .before .before .before .args in
     let p = c .before .before .before .before .before .before .pre in
@@ -334,7 +334,7 @@ few-requires-2 c κs = let a = c .before .before .before .before .args in let p 
     (sp-fits _ (a .region .now) _ h l, omega arith)
 
 returns-19 : tie.Need-returns-19
-unfolding opcode
+unfolding opcode rowIn appendixB
 returns-19 c =
     let a = c .before .before .before .before .before .before .args in
     let p = c .before .before .before .before .before .before .pre in
@@ -359,7 +359,7 @@ few-requires-3 c κs = let a = c .before .before .before .before .args in let p 
     (sp-fits _ (a .region .now) _ h l, omega arith)
 
 returns-20 : tie.Need-returns-20
-unfolding opcode
+unfolding opcode rowIn appendixB
 returns-20 c =
     let a = c .before .before .before .before .before .before .args in
     let p = c .before .before .before .before .before .before .pre in
@@ -389,7 +389,7 @@ enum-told-16 : tie.Need-enum-told-16
 enum-told-16 c = c .match17 .keys2
 
 returns-21 : tie.Need-returns-21
-unfolding opcode
+unfolding opcode rowIn appendixB
 returns-21 c =
     let a = c .before .before .before .before .before .before .before .args in
     cut (a .seg .now) (a .shared .now) (a .region .now) (a .r) (a .at) (a .op) 0 0 _ UB _ (ap opcode (c .before .before .before .match .keys15)) _ (c .before .before .unsigned4 .ensures) _ (c .enum-told16 .given .1)
@@ -411,7 +411,7 @@ enum-told-17 : tie.Need-enum-told-17
 enum-told-17 c = c .match18 .keys2
 
 returns-22 : tie.Need-returns-22
-unfolding opcode
+unfolding opcode rowIn appendixB
 returns-22 c =
     let a = c .before .before .before .before .before .before .before .args in
     cut (a .seg .now) (a .shared .now) (a .region .now) (a .r) (a .at) (a .op) 0 0 _ UB _ (ap opcode (c .before .before .before .match .keys16)) _ (c .before .before .unsigned5 .ensures) _ (c .enum-told17 .given .1)
@@ -433,7 +433,7 @@ enum-told-18 : tie.Need-enum-told-18
 enum-told-18 c = c .match19 .keys2
 
 returns-23 : tie.Need-returns-23
-unfolding opcode
+unfolding opcode rowIn appendixB
 returns-23 c =
     let a = c .before .before .before .before .before .before .before .args in
     cut (a .seg .now) (a .shared .now) (a .region .now) (a .r) (a .at) (a .op) 0 0 _ DB _ (ap opcode (c .before .before .before .match .keys17)) _ (c .before .before .unsigned6 .ensures ∙ sym (fetched-DB _ _)) _ (c .enum-told18 .given .1)
@@ -448,13 +448,13 @@ enum-told-19 : tie.Need-enum-told-19
 enum-told-19 c = c .match20 .keys2
 
 returns-24 : tie.Need-returns-24
-unfolding opcode
+unfolding opcode rowIn appendixB
 returns-24 c =
     let a = c .before .before .before .before .before .before .before .before .before .before .before .args in
     cut-second (a .seg .now) (a .shared .now) (a .region .now) (a .r) (a .at) (a .op) 0 0 _ UB (ap opcode (c .before .before .before .before .before .before .before .match .keys17)) _ (c .before .before .before .before .before .before .unsigned6 .ensures) _ _ (c .before .before .before .before .d3 .given .1) _ (c .before .before .unsigned7 .ensures) _ (c .enum-told19 .given .1)
 
 returns-25 : tie.Need-returns-25
-unfolding opcode
+unfolding opcode rowIn appendixB
 returns-25 c =
     let a = c .before .before .before .before .before .before .before .before .before .before .before .before .before .args in
     deep (a .seg .now) (a .shared .now) (a .region .now) (a .r) (a .at) (a .op) 0 0 _ UB (ap opcode (c .before .before .before .before .before .before .before .before .before .match .keys17)) _ (c .before .before .before .before .before .before .before .before .unsigned6 .ensures) _ _ (c .before .before .before .before .before .before .d3 .given .1) _ (c .before .before .before .before .unsigned7 .ensures) _ _ (c .before .before .a14 .given .1) (c .if6 .taken)
@@ -470,7 +470,7 @@ enum-told-20 : tie.Need-enum-told-20
 enum-told-20 c = c .match21 .keys2
 
 returns-26 : tie.Need-returns-26
-unfolding opcode
+unfolding opcode rowIn appendixB
 returns-26 c =
     let a = c .before .before .before .before .before .before .before .before .before .before .before .before .before .before .before .before .args in
     let p = c .before .before .before .before .before .before .before .before .before .before .before .before .before .before .before .before .pre in
@@ -495,7 +495,7 @@ enum-told-21 : tie.Need-enum-told-21
 enum-told-21 c = c .match22 .keys2
 
 returns-27 : tie.Need-returns-27
-unfolding opcode
+unfolding opcode rowIn appendixB
 returns-27 c =
     let a = c .before .before .before .before .before .before .before .args in
     cut (a .seg .now) (a .shared .now) (a .region .now) (a .r) (a .at) (a .op) 0 0 _ B _ (ap opcode (c .before .before .before .match .keys18)) _ (c .before .before .big8 .ensures) _ (c .enum-told21 .given .1)
@@ -513,7 +513,7 @@ few-requires-4 c κs = let a = c .before .before .before .before .args in let p 
     (sp-fits _ (a .region .now) _ h l, omega arith)
 
 returns-28 : tie.Need-returns-28
-unfolding opcode
+unfolding opcode rowIn appendixB
 returns-28 c =
     let a = c .before .before .before .before .before .before .args in
     let p = c .before .before .before .before .before .before .pre in
@@ -541,7 +541,7 @@ few-requires-5 c κs = let a = c .before .before .before .before .args in let p 
     (sp-fits _ (a .region .now) _ h l, omega arith)
 
 returns-29 : tie.Need-returns-29
-unfolding opcode
+unfolding opcode rowIn appendixB
 returns-29 c =
     let a = c .before .before .before .before .before .before .args in
     let p = c .before .before .before .before .before .before .pre in
@@ -569,7 +569,7 @@ few-requires-6 c κs = let a = c .before .before .before .before .args in let p 
     (sp-fits _ (a .region .now) _ h l, omega arith)
 
 returns-30 : tie.Need-returns-30
-unfolding opcode
+unfolding opcode rowIn appendixB
 returns-30 c =
     let a = c .before .before .before .before .before .before .args in
     let p = c .before .before .before .before .before .before .pre in
@@ -597,7 +597,7 @@ few-requires-7 c κs = let a = c .before .before .before .before .args in let p 
     (sp-fits _ (a .region .now) _ h l, omega arith)
 
 returns-31 : tie.Need-returns-31
-unfolding opcode
+unfolding opcode rowIn appendixB
 returns-31 c =
     let a = c .before .before .before .before .before .before .args in
     let p = c .before .before .before .before .before .before .pre in
@@ -630,7 +630,7 @@ enum-told-22 : tie.Need-enum-told-22
 enum-told-22 c = c .match23 .keys2
 
 returns-32 : tie.Need-returns-32
-unfolding opcode
+unfolding opcode rowIn appendixB
 returns-32 c =
     let a = c .before .before .before .before .before .before .before .args in
     cut (a .seg .now) (a .shared .now) (a .region .now) (a .r) (a .at) (a .op) 1 0 _ B _ (ap opcode (c .before .before .before .match .keys25)) _ (c .before .before .big9 .ensures) _ (c .enum-told22 .given .1)
@@ -640,7 +640,7 @@ few-requires-8 c κs = let a = c .before .before .before .before .before .before
     (sp-fits _ (a .region .now) _ h l, omega arith)
 
 returns-33 : tie.Need-returns-33
-unfolding opcode
+unfolding opcode rowIn appendixB
 returns-33 c =
     let a = c .before .before .before .before .before .before .before .before .before .before .args in
     let p = c .before .before .before .before .before .before .before .before .before .before .pre in
@@ -662,7 +662,7 @@ enum-told-23 : tie.Need-enum-told-23
 enum-told-23 c = c .match24 .keys2
 
 returns-34 : tie.Need-returns-34
-unfolding opcode
+unfolding opcode rowIn appendixB
 returns-34 c =
     let a = c .before .before .before .before .before .before .before .args in
     cut (a .seg .now) (a .shared .now) (a .region .now) (a .r) (a .at) (a .op) 1 0 _ B _ (ap opcode (c .before .before .before .match .keys26)) _ (c .before .before .big10 .ensures) _ (c .enum-told23 .given .1)
@@ -672,7 +672,7 @@ few-requires-9 c κs = let a = c .before .before .before .before .before .before
     (sp-fits _ (a .region .now) _ h l, omega arith)
 
 returns-35 : tie.Need-returns-35
-unfolding opcode
+unfolding opcode rowIn appendixB
 returns-35 c =
     let a = c .before .before .before .before .before .before .before .before .before .before .args in
     let p = c .before .before .before .before .before .before .before .before .before .before .pre in
@@ -694,7 +694,7 @@ enum-told-24 : tie.Need-enum-told-24
 enum-told-24 c = c .match25 .keys2
 
 returns-36 : tie.Need-returns-36
-unfolding opcode
+unfolding opcode rowIn appendixB
 returns-36 c =
     let a = c .before .before .before .before .before .before .before .args in
     cut (a .seg .now) (a .shared .now) (a .region .now) (a .r) (a .at) (a .op) 1 0 _ DB _ (ap opcode (c .before .before .before .match .keys27)) _ (c .before .before .unsigned8 .ensures ∙ sym (fetched-DB _ _)) _ (c .enum-told24 .given .1)
@@ -709,13 +709,13 @@ enum-told-25 : tie.Need-enum-told-25
 enum-told-25 c = c .match26 .keys2
 
 returns-37 : tie.Need-returns-37
-unfolding opcode
+unfolding opcode rowIn appendixB
 returns-37 c =
     let a = c .before .before .before .before .before .before .before .before .before .before .before .args in
     cut-second (a .seg .now) (a .shared .now) (a .region .now) (a .r) (a .at) (a .op) 1 0 _ B (ap opcode (c .before .before .before .before .before .before .before .match .keys27)) _ (c .before .before .before .before .before .before .unsigned8 .ensures) _ _ (c .before .before .before .before .d4 .given .1) _ (c .before .before .big11 .ensures) _ (c .enum-told25 .given .1)
 
 returns-38 : tie.Need-returns-38
-unfolding opcode
+unfolding opcode rowIn appendixB
 returns-38 c =
     let a = c .before .before .before .before .before .before .before .before .before .before .before .before .before .args in
     deep (a .seg .now) (a .shared .now) (a .region .now) (a .r) (a .at) (a .op) 1 0 _ B (ap opcode (c .before .before .before .before .before .before .before .before .before .match .keys27)) _ (c .before .before .before .before .before .before .before .before .unsigned8 .ensures) _ _ (c .before .before .before .before .before .before .d4 .given .1) _ (c .before .before .before .before .big11 .ensures) _ _ (c .before .before .a18 .given .1) (c .if13 .taken)
@@ -725,7 +725,7 @@ few-requires-10 c κs = let a = c .before .before .before .before .before .befor
     (sp-fits _ (a .region .now) _ h l, omega arith)
 
 returns-39 : tie.Need-returns-39
-unfolding opcode
+unfolding opcode rowIn appendixB
 returns-39 c =
     let a = c .before .before .before .before .before .before .before .before .before .before .before .before .before .before .before .args in
     let p = c .before .before .before .before .before .before .before .before .before .before .before .before .before .before .before .pre in
@@ -744,7 +744,7 @@ enum-told-26 : tie.Need-enum-told-26
 enum-told-26 c = c .match27 .keys2
 
 returns-40 : tie.Need-returns-40
-unfolding opcode
+unfolding opcode rowIn appendixB
 returns-40 c =
     let a = c .before .before .before .before .before .before .before .before .before .before .before .before .before .before .before .before .before .before .args in
     let p = c .before .before .before .before .before .before .before .before .before .before .before .before .before .before .before .before .before .before .pre in
@@ -766,7 +766,7 @@ enum-told-27 : tie.Need-enum-told-27
 enum-told-27 c = c .match28 .keys2
 
 returns-41 : tie.Need-returns-41
-unfolding opcode
+unfolding opcode rowIn appendixB
 returns-41 c =
     let a = c .before .before .before .before .before .before .before .args in
     cut (a .seg .now) (a .shared .now) (a .region .now) (a .r) (a .at) (a .op) 0 1 _ B _ (ap opcode (c .before .before .before .match .keys28)) _ (c .before .before .big12 .ensures) _ (c .enum-told27 .given .1)
@@ -782,7 +782,7 @@ enum-told-28 : tie.Need-enum-told-28
 enum-told-28 c = c .match29 .keys2
 
 returns-42 : tie.Need-returns-42
-unfolding opcode
+unfolding opcode rowIn appendixB
 returns-42 c =
     let a = c .before .before .before .before .before .before .before .before .before .before .before .args in
     let p = c .before .before .before .before .before .before .before .before .before .before .before .pre in
@@ -804,7 +804,7 @@ enum-told-29 : tie.Need-enum-told-29
 enum-told-29 c = c .match30 .keys2
 
 returns-43 : tie.Need-returns-43
-unfolding opcode
+unfolding opcode rowIn appendixB
 returns-43 c =
     let a = c .before .before .before .before .before .before .before .args in
     cut (a .seg .now) (a .shared .now) (a .region .now) (a .r) (a .at) (a .op) 0 1 _ B _ (ap opcode (c .before .before .before .match .keys29)) _ (c .before .before .big13 .ensures) _ (c .enum-told29 .given .1)
@@ -820,7 +820,7 @@ enum-told-30 : tie.Need-enum-told-30
 enum-told-30 c = c .match31 .keys2
 
 returns-44 : tie.Need-returns-44
-unfolding opcode
+unfolding opcode rowIn appendixB
 returns-44 c =
     let a = c .before .before .before .before .before .before .before .before .before .before .before .args in
     let p = c .before .before .before .before .before .before .before .before .before .before .before .pre in
@@ -837,7 +837,7 @@ few-requires-11 c κs = let a = c .before .before .before .before .args in let p
     (sp-fits _ (a .region .now) _ h l, omega arith)
 
 returns-45 : tie.Need-returns-45
-unfolding opcode
+unfolding opcode rowIn appendixB
 returns-45 c =
     let a = c .before .before .before .before .before .before .args in
     let p = c .before .before .before .before .before .before .pre in
@@ -865,7 +865,7 @@ few-requires-12 c κs = let a = c .before .before .before .before .args in let p
     (sp-fits _ (a .region .now) _ h l, omega arith)
 
 returns-46 : tie.Need-returns-46
-unfolding opcode
+unfolding opcode rowIn appendixB
 returns-46 c =
     let a = c .before .before .before .before .before .before .args in
     let p = c .before .before .before .before .before .before .pre in
@@ -893,7 +893,7 @@ few-requires-13 c κs = let a = c .before .before .before .before .args in let p
     (sp-fits _ (a .region .now) _ h l, omega arith)
 
 returns-47 : tie.Need-returns-47
-unfolding opcode
+unfolding opcode rowIn appendixB
 returns-47 c =
     let a = c .before .before .before .before .before .before .args in
     let p = c .before .before .before .before .before .before .pre in
@@ -921,7 +921,7 @@ few-requires-14 c κs = let a = c .before .before .before .before .args in let p
     (sp-fits _ (a .region .now) _ h l, omega arith)
 
 returns-48 : tie.Need-returns-48
-unfolding opcode
+unfolding opcode rowIn appendixB
 returns-48 c =
     let a = c .before .before .before .before .before .before .args in
     let p = c .before .before .before .before .before .before .pre in
@@ -949,7 +949,7 @@ few-requires-15 c κs = let a = c .before .before .before .before .args in let p
     (sp-fits _ (a .region .now) _ h l, omega arith)
 
 returns-49 : tie.Need-returns-49
-unfolding opcode
+unfolding opcode rowIn appendixB
 returns-49 c =
     let a = c .before .before .before .before .before .before .args in
     let p = c .before .before .before .before .before .before .pre in
@@ -977,7 +977,7 @@ few-requires-16 c κs = let a = c .before .before .before .before .args in let p
     (sp-fits _ (a .region .now) _ h l, omega arith)
 
 returns-50 : tie.Need-returns-50
-unfolding opcode
+unfolding opcode rowIn appendixB
 returns-50 c =
     let a = c .before .before .before .before .before .before .args in
     let p = c .before .before .before .before .before .before .pre in
@@ -1005,7 +1005,7 @@ few-requires-17 c κs = let a = c .before .before .before .before .args in let p
     (sp-fits _ (a .region .now) _ h l, omega arith)
 
 returns-51 : tie.Need-returns-51
-unfolding opcode
+unfolding opcode rowIn appendixB
 returns-51 c =
     let a = c .before .before .before .before .before .before .args in
     let p = c .before .before .before .before .before .before .pre in
@@ -1026,7 +1026,7 @@ few-requires-18 c κs = let a = c .before .before .before .before .args in let p
     (sp-fits _ (a .region .now) _ h l, omega arith)
 
 returns-52 : tie.Need-returns-52
-unfolding opcode
+unfolding opcode rowIn appendixB
 returns-52 c =
     let a = c .before .before .before .before .before .before .args in
     let p = c .before .before .before .before .before .before .pre in
@@ -1043,7 +1043,7 @@ few-requires-19 c κs = let a = c .before .before .before .before .args in let p
     (sp-fits _ (a .region .now) _ h l, omega arith)
 
 returns-53 : tie.Need-returns-53
-unfolding opcode
+unfolding opcode rowIn appendixB
 returns-53 c =
     let a = c .before .before .before .before .before .before .args in
     let p = c .before .before .before .before .before .before .pre in
@@ -1065,7 +1065,7 @@ enum-told-31 : tie.Need-enum-told-31
 enum-told-31 c = c .match32 .keys2
 
 returns-54 : tie.Need-returns-54
-unfolding opcode
+unfolding opcode rowIn appendixB
 returns-54 c =
     let a = c .before .before .before .before .before .before .before .args in
     cut (a .seg .now) (a .shared .now) (a .region .now) (a .r) (a .at) (a .op) 1 0 _ SB _ (ap opcode (c .before .before .before .match .keys39)) _ (c .before .before .signed2 .ensures) _ (c .enum-told31 .given .1)
@@ -1075,7 +1075,7 @@ few-requires-20 c κs = let a = c .before .before .before .before .before .befor
     (sp-fits _ (a .region .now) _ h l, omega arith)
 
 returns-55 : tie.Need-returns-55
-unfolding opcode
+unfolding opcode rowIn appendixB
 returns-55 c =
     let a = c .before .before .before .before .before .before .before .before .before .before .args in
     let p = c .before .before .before .before .before .before .before .before .before .before .pre in
@@ -1097,7 +1097,7 @@ enum-told-32 : tie.Need-enum-told-32
 enum-told-32 c = c .match33 .keys2
 
 returns-56 : tie.Need-returns-56
-unfolding opcode
+unfolding opcode rowIn appendixB
 returns-56 c =
     let a = c .before .before .before .before .before .before .before .args in
     cut (a .seg .now) (a .shared .now) (a .region .now) (a .r) (a .at) (a .op) 1 0 _ W _ (ap opcode (c .before .before .before .match .keys40)) _ (c .before .before .wide3 .ensures) _ (c .enum-told32 .given .1)
@@ -1107,7 +1107,7 @@ few-requires-21 c κs = let a = c .before .before .before .before .before .befor
     (sp-fits _ (a .region .now) _ h l, omega arith)
 
 returns-57 : tie.Need-returns-57
-unfolding opcode
+unfolding opcode rowIn appendixB
 returns-57 c =
     let a = c .before .before .before .before .before .before .before .before .before .before .args in
     let p = c .before .before .before .before .before .before .before .before .before .before .pre in
@@ -1124,7 +1124,7 @@ few-requires-22 c κs = let a = c .before .before .before .before .args in let p
     (sp-fits _ (a .region .now) _ h l, omega arith)
 
 returns-58 : tie.Need-returns-58
-unfolding opcode
+unfolding opcode rowIn appendixB
 returns-58 c =
     let a = c .before .before .before .before .before .before .args in
     let p = c .before .before .before .before .before .before .pre in
@@ -1147,7 +1147,7 @@ few-requires-23 c κs = let a = c .before .before .before .before .args in let p
     (sp-fits _ (a .region .now) _ h l, omega arith)
 
 returns-59 : tie.Need-returns-59
-unfolding opcode
+unfolding opcode rowIn appendixB
 returns-59 c =
     let a = c .before .before .before .before .before .before .args in
     let p = c .before .before .before .before .before .before .pre in
@@ -1170,7 +1170,7 @@ few-requires-24 c κs = let a = c .before .before .before .before .args in let p
     (sp-fits _ (a .region .now) _ h l, omega arith)
 
 returns-60 : tie.Need-returns-60
-unfolding opcode
+unfolding opcode rowIn appendixB
 returns-60 c =
     let a = c .before .before .before .before .before .before .args in
     let p = c .before .before .before .before .before .before .pre in
@@ -1191,7 +1191,7 @@ few-requires-25 c κs = let a = c .before .before .before .before .args in let p
     (sp-fits _ (a .region .now) _ h l, omega arith)
 
 returns-61 : tie.Need-returns-61
-unfolding opcode
+unfolding opcode rowIn appendixB
 returns-61 c =
     let a = c .before .before .before .before .before .before .args in
     let p = c .before .before .before .before .before .before .pre in
@@ -1219,7 +1219,7 @@ enum-told-33 : tie.Need-enum-told-33
 enum-told-33 c = c .match34 .keys2
 
 returns-62 : tie.Need-returns-62
-unfolding opcode
+unfolding opcode rowIn appendixB
 returns-62 c =
     let a = c .before .before .before .before .before .before .before .args in
     cut (a .seg .now) (a .shared .now) (a .region .now) (a .r) (a .at) (a .op) 1 1 _ B _ (ap opcode (c .before .before .before .match .keys45)) _ (c .before .before .big14 .ensures) _ (c .enum-told33 .given .1)
@@ -1229,7 +1229,7 @@ few-requires-26 c κs = let a = c .before .before .before .before .before .befor
     (sp-fits _ (a .region .now) _ h l, omega arith)
 
 returns-63 : tie.Need-returns-63
-unfolding opcode
+unfolding opcode rowIn appendixB
 returns-63 c =
     let a = c .before .before .before .before .before .before .before .before .before .before .args in
     let p = c .before .before .before .before .before .before .before .before .before .before .pre in
@@ -1253,7 +1253,7 @@ few-requires-27 c κs = let a = c .before .before .before .before .args in let p
     (sp-fits _ (a .region .now) _ h l, omega arith)
 
 returns-64 : tie.Need-returns-64
-unfolding opcode
+unfolding opcode rowIn appendixB
 returns-64 c =
     let a = c .before .before .before .before .before .before .args in
     let p = c .before .before .before .before .before .before .pre in
@@ -1276,7 +1276,7 @@ few-requires-28 c κs = let a = c .before .before .before .before .args in let p
     (sp-fits _ (a .region .now) _ h l, omega arith)
 
 returns-65 : tie.Need-returns-65
-unfolding opcode
+unfolding opcode rowIn appendixB
 returns-65 c =
     let a = c .before .before .before .before .before .before .args in
     let p = c .before .before .before .before .before .before .pre in
@@ -1304,7 +1304,7 @@ enum-told-34 : tie.Need-enum-told-34
 enum-told-34 c = c .match35 .keys2
 
 returns-66 : tie.Need-returns-66
-unfolding opcode
+unfolding opcode rowIn appendixB
 returns-66 c =
     let a = c .before .before .before .before .before .before .before .args in
     cut (a .seg .now) (a .shared .now) (a .region .now) (a .r) (a .at) (a .op) 0 0 _ UB _ (ap opcode (c .before .before .before .match .keys48)) _ (c .before .before .unsigned9 .ensures) _ (c .enum-told34 .given .1)
@@ -1320,7 +1320,7 @@ enum-told-35 : tie.Need-enum-told-35
 enum-told-35 c = c .match36 .keys2
 
 returns-67 : tie.Need-returns-67
-unfolding opcode
+unfolding opcode rowIn appendixB
 returns-67 c =
     let a = c .before .before .before .before .before .before .before .before .before .before .before .args in
     let p = c .before .before .before .before .before .before .before .before .before .before .before .pre in
@@ -1345,7 +1345,7 @@ enum-told-36 : tie.Need-enum-told-36
 enum-told-36 c = c .match37 .keys2
 
 returns-68 : tie.Need-returns-68
-unfolding opcode
+unfolding opcode rowIn appendixB
 returns-68 c =
     let a = c .before .before .before .before .before .before .before .args in
     cut (a .seg .now) (a .shared .now) (a .region .now) (a .r) (a .at) (a .op) 0 0 _ UB _ (ap opcode (c .before .before .before .match .keys49)) _ (c .before .before .unsigned10 .ensures) _ (c .enum-told36 .given .1)
@@ -1361,7 +1361,7 @@ enum-told-37 : tie.Need-enum-told-37
 enum-told-37 c = c .match38 .keys2
 
 returns-69 : tie.Need-returns-69
-unfolding opcode
+unfolding opcode rowIn appendixB
 returns-69 c =
     let a = c .before .before .before .before .before .before .before .before .before .before .before .args in
     let p = c .before .before .before .before .before .before .before .before .before .before .before .pre in
@@ -1386,7 +1386,7 @@ enum-told-38 : tie.Need-enum-told-38
 enum-told-38 c = c .match39 .keys2
 
 returns-70 : tie.Need-returns-70
-unfolding opcode
+unfolding opcode rowIn appendixB
 returns-70 c =
     let a = c .before .before .before .before .before .before .before .args in
     cut (a .seg .now) (a .shared .now) (a .region .now) (a .r) (a .at) (a .op) 1 0 _ SB _ (ap opcode (c .before .before .before .match .keys50)) _ (c .before .before .signed3 .ensures) _ (c .enum-told38 .given .1)
@@ -1396,7 +1396,7 @@ few-requires-29 c κs = let a = c .before .before .before .before .before .befor
     (sp-fits _ (a .region .now) _ h l, omega arith)
 
 returns-71 : tie.Need-returns-71
-unfolding opcode
+unfolding opcode rowIn appendixB
 returns-71 c =
     let a = c .before .before .before .before .before .before .before .before .before .before .args in
     let p = c .before .before .before .before .before .before .before .before .before .before .pre in
@@ -1491,7 +1491,7 @@ give-read-requires-2 : tie.Need-give-read-requires-2
 give-read-requires-2 c κs = search needs
 
 returns-74 : tie.Need-returns-74
-unfolding opcode
+unfolding opcode rowIn appendixB
 returns-74 c =
     let a = c .before .before .before .before .before .before .before .before .before .args in
     let p = c .before .before .before .before .before .before .before .before .before .pre in
@@ -1500,7 +1500,7 @@ returns-74 c =
     (con _ _ _ _ h l (a .facts) t _ _ _ _ (c .push .ensures) refl)
 
 returns-75 : tie.Need-returns-75
-unfolding opcode
+unfolding opcode rowIn appendixB
 returns-75 c =
     let a = c .before .before .before .before .before .before .before .before .before .args in
     let p = c .before .before .before .before .before .before .before .before .before .pre in
@@ -1509,7 +1509,7 @@ returns-75 c =
     (con _ _ _ _ h l (a .facts) t _ _ _ _ (c .push2 .ensures) refl)
 
 returns-76 : tie.Need-returns-76
-unfolding opcode
+unfolding opcode rowIn appendixB
 returns-76 c =
     let a = c .before .before .before .before .before .before .before .before .before .args in
     let p = c .before .before .before .before .before .before .before .before .before .pre in
@@ -1518,7 +1518,7 @@ returns-76 c =
     (pol _ _ _ _ h l (a .facts) t _ _ _ (c .pool-offset .ensures))
 
 returns-77 : tie.Need-returns-77
-unfolding opcode
+unfolding opcode rowIn appendixB
 returns-77 c =
     let a = c .before .before .before .before .before .before .before .before .before .args in
     let p = c .before .before .before .before .before .before .before .before .before .pre in
@@ -1527,7 +1527,7 @@ returns-77 c =
     (adr _ _ _ _ h l (a .facts) t _ _ (up 0) _ _ _ (here _ _) (c .address .ensures) refl)
 
 returns-78 : tie.Need-returns-78
-unfolding opcode
+unfolding opcode rowIn appendixB
 returns-78 c =
     let a = c .before .before .before .before .before .before .before .before .before .args in
     let p = c .before .before .before .before .before .before .before .before .before .pre in
@@ -1536,7 +1536,7 @@ returns-78 c =
     (lod _ _ _ _ h l (a .facts) t _ _ globals _ _ _ (at-globals _ _) (c .load .ensures) refl)
 
 returns-79 : tie.Need-returns-79
-unfolding opcode
+unfolding opcode rowIn appendixB
 returns-79 c =
     let a = c .before .before .before .before .before .before .before .before .before .args in
     let p = c .before .before .before .before .before .before .before .before .before .pre in
@@ -1545,7 +1545,7 @@ returns-79 c =
     (adr _ _ _ _ h l (a .facts) t _ _ globals _ _ _ (at-globals _ _) (c .address2 .ensures) refl)
 
 returns-80 : tie.Need-returns-80
-unfolding opcode
+unfolding opcode rowIn appendixB
 returns-80 c =
     let a = c .before .before .before .before .before .before .before .before .before .args in
     let p = c .before .before .before .before .before .before .before .before .before .pre in
@@ -1554,7 +1554,7 @@ returns-80 c =
     (lod _ _ _ _ h l (a .facts) t _ _ (up 0) _ _ _ (here _ _) (c .load2 .ensures) refl)
 
 returns-81 : tie.Need-returns-81
-unfolding opcode
+unfolding opcode rowIn appendixB
 returns-81 c =
     let a = c .before .before .before .before .before .before .before .before .before .before .before .before .before .before .before .before .before .before .args in
     let p = c .before .before .before .before .before .before .before .before .before .before .before .before .before .before .before .before .before .before .pre in
@@ -1563,7 +1563,7 @@ returns-81 c =
     (adr _ _ _ _ h l (a .facts) t _ _ (up _) _ _ _ (walked _ _ _ _ (c .before .before .before .before .walk .ensures) _ (c .before .before .rec .given .1)) (c .address3 .ensures) refl)
 
 returns-82 : tie.Need-returns-82
-unfolding opcode
+unfolding opcode rowIn appendixB
 returns-82 c =
     let a = c .before .before .before .before .before .before .before .before .before .before .before .before .before .before .before .before .before .before .args in
     let p = c .before .before .before .before .before .before .before .before .before .before .before .before .before .before .before .before .before .before .pre in
@@ -1572,7 +1572,7 @@ returns-82 c =
     (lod _ _ _ _ h l (a .facts) t _ _ (up _) _ _ _ (walked _ _ _ _ (c .before .before .before .before .walk2 .ensures) _ (c .before .before .rec2 .given .1)) (c .load3 .ensures) refl)
 
 returns-83 : tie.Need-returns-83
-unfolding opcode
+unfolding opcode rowIn appendixB
 returns-83 c =
     let a = c .before .before .before .before .before .before .before .before .before .args in
     let p = c .before .before .before .before .before .before .before .before .before .pre in
@@ -1581,7 +1581,7 @@ returns-83 c =
     (jmp _ _ _ _ h l (a .facts) t _ _ _ (c .jump .ensures))
 
 returns-84 : tie.Need-returns-84
-unfolding opcode
+unfolding opcode rowIn appendixB
 returns-84 c =
     let a = c .before .before .before .before .before .before .before .before .before .args in
     let p = c .before .before .before .before .before .before .before .before .before .pre in
@@ -1590,7 +1590,7 @@ returns-84 c =
     (jmp _ _ _ _ h l (a .facts) t _ _ _ (c .jump2 .ensures))
 
 returns-85 : tie.Need-returns-85
-unfolding opcode
+unfolding opcode rowIn appendixB
 returns-85 c =
     let a = c .before .before .before .before .before .before .before .before .before .before .args in
     let p = c .before .before .before .before .before .before .before .before .before .before .pre in
@@ -1599,7 +1599,7 @@ returns-85 c =
     (bin _ _ _ _ h l (a .facts) t _ _ mulOf _ _ _ (c .give-two .ensures) (c .before .mul .ensures) (c .before .before .before .nos .ensures) (c .before .before .tos .ensures) (enough (a .region .now) _ _ _ (c .before .before .before .before .before .few .ensures) (c .before .before .before .before .if3 .left)))
 
 returns-86 : tie.Need-returns-86
-unfolding opcode
+unfolding opcode rowIn appendixB
 returns-86 c =
     let a = c .before .before .before .before .before .before .before .before .before .args in
     let p = c .before .before .before .before .before .before .before .before .before .pre in
@@ -1608,7 +1608,7 @@ returns-86 c =
     (div _ _ _ _ h l (a .facts) t _ _ quotOf _ _ (c .quotient .ensures) (c .before .before .nos2 .ensures) (c .before .tos2 .ensures) (enough (a .region .now) _ _ _ (c .before .before .before .before .few2 .ensures) (c .before .before .before .if4 .left)))
 
 returns-87 : tie.Need-returns-87
-unfolding opcode
+unfolding opcode rowIn appendixB
 returns-87 c =
     let a = c .before .before .before .before .before .before .before .before .before .args in
     let p = c .before .before .before .before .before .before .before .before .before .pre in
@@ -1617,7 +1617,7 @@ returns-87 c =
     (div _ _ _ _ h l (a .facts) t _ _ remOf _ _ (c .remainder .ensures) (c .before .before .nos3 .ensures) (c .before .tos3 .ensures) (enough (a .region .now) _ _ _ (c .before .before .before .before .few3 .ensures) (c .before .before .before .if5 .left)))
 
 returns-88 : tie.Need-returns-88
-unfolding opcode
+unfolding opcode rowIn appendixB
 returns-88 c =
     let a = c .before .before .before .before .before .before .before .before .before .before .args in
     let p = c .before .before .before .before .before .before .before .before .before .before .pre in
@@ -1626,7 +1626,7 @@ returns-88 c =
     (cal _ _ _ _ h l (a .facts) t _ _ (up 0) _ _ _ (here _ _) (c .call .ensures) (c .before .enter .ensures))
 
 returns-89 : tie.Need-returns-89
-unfolding opcode
+unfolding opcode rowIn appendixB
 returns-89 c =
     let a = c .before .before .before .before .before .before .before .before .before .before .args in
     let p = c .before .before .before .before .before .before .before .before .before .before .pre in
@@ -1635,7 +1635,7 @@ returns-89 c =
     (cal _ _ _ _ h l (a .facts) t _ _ globals _ _ _ (at-globals _ _) (c .call2 .ensures) (c .before .enter2 .ensures))
 
 returns-90 : tie.Need-returns-90
-unfolding opcode
+unfolding opcode rowIn appendixB
 returns-90 c =
     let a = c .before .before .before .before .before .before .before .before .before .before .before .before .before .before .before .before .before .before .before .args in
     let p = c .before .before .before .before .before .before .before .before .before .before .before .before .before .before .before .before .before .before .before .pre in
@@ -1644,7 +1644,7 @@ returns-90 c =
     (cal _ _ _ _ h l (a .facts) t _ _ (up _) _ _ _ (walked _ _ _ _ (c .before .before .before .before .before .walk3 .ensures) _ (c .before .before .before .rec3 .given .1)) (c .call3 .ensures) (c .before .enter3 .ensures))
 
 returns-91 : tie.Need-returns-91
-unfolding opcode
+unfolding opcode rowIn appendixB
 returns-91 c =
     let a = c .before .before .before .before .before .before .before .before .before .args in
     let p = c .before .before .before .before .before .before .before .before .before .pre in
@@ -1653,7 +1653,7 @@ returns-91 c =
     (ret _ _ _ _ h l (a .facts) t _ _ _ (c .give-back .ensures))
 
 returns-92 : tie.Need-returns-92
-unfolding opcode
+unfolding opcode rowIn appendixB
 returns-92 c =
     let a = c .before .before .before .before .before .args in
     let p = c .before .before .before .before .before .pre in
@@ -1662,7 +1662,7 @@ returns-92 c =
     (con _ _ _ _ h l (a .facts) t _ _ _ _ (c .push3 .ensures) refl)
 
 returns-93 : tie.Need-returns-93
-unfolding opcode
+unfolding opcode rowIn appendixB
 returns-93 c =
     let a = c .before .before .before .before .args in
     let p = c .before .before .before .before .pre in
@@ -1671,7 +1671,7 @@ returns-93 c =
     (nop _ _ _ _ h l (a .facts) t _ _ (moves _ _ _))
 
 returns-94 : tie.Need-returns-94
-unfolding opcode
+unfolding opcode rowIn appendixB
 returns-94 c =
     let a = c .before .before .before .before .before .before .before .before .before .before .args in
     let p = c .before .before .before .before .before .before .before .before .before .before .pre in
@@ -1680,7 +1680,7 @@ returns-94 c =
     (bin _ _ _ _ h l (a .facts) t _ _ orOf _ _ _ (c .give-two2 .ensures) (c .before .bit-or .ensures) (c .before .before .before .nos4 .ensures) (c .before .before .tos4 .ensures) (enough (a .region .now) _ _ _ (c .before .before .before .before .before .few4 .ensures) (c .before .before .before .before .if7 .left)))
 
 returns-95 : tie.Need-returns-95
-unfolding opcode
+unfolding opcode rowIn appendixB
 returns-95 c =
     let a = c .before .before .before .before .before .before .before .before .before .before .args in
     let p = c .before .before .before .before .before .before .before .before .before .before .pre in
@@ -1689,7 +1689,7 @@ returns-95 c =
     (bin _ _ _ _ h l (a .facts) t _ _ andOf _ _ _ (c .give-two3 .ensures) (c .before .bit-and .ensures) (c .before .before .before .nos5 .ensures) (c .before .before .tos5 .ensures) (enough (a .region .now) _ _ _ (c .before .before .before .before .before .few5 .ensures) (c .before .before .before .before .if8 .left)))
 
 returns-96 : tie.Need-returns-96
-unfolding opcode
+unfolding opcode rowIn appendixB
 returns-96 c =
     let a = c .before .before .before .before .before .before .before .before .before .before .args in
     let p = c .before .before .before .before .before .before .before .before .before .before .pre in
@@ -1698,7 +1698,7 @@ returns-96 c =
     (bin _ _ _ _ h l (a .facts) t _ _ addOf _ _ _ (c .give-two4 .ensures) (c .before .add .ensures) (c .before .before .before .nos6 .ensures) (c .before .before .tos6 .ensures) (enough (a .region .now) _ _ _ (c .before .before .before .before .before .few6 .ensures) (c .before .before .before .before .if9 .left)))
 
 returns-97 : tie.Need-returns-97
-unfolding opcode
+unfolding opcode rowIn appendixB
 returns-97 c =
     let a = c .before .before .before .before .before .before .before .before .before .before .args in
     let p = c .before .before .before .before .before .before .before .before .before .before .pre in
@@ -1707,7 +1707,7 @@ returns-97 c =
     (bin _ _ _ _ h l (a .facts) t _ _ subOf _ _ _ (c .give-two5 .ensures) (c .before .sub .ensures) (c .before .before .before .nos7 .ensures) (c .before .before .tos7 .ensures) (enough (a .region .now) _ _ _ (c .before .before .before .before .before .few7 .ensures) (c .before .before .before .before .if10 .left)))
 
 returns-98 : tie.Need-returns-98
-unfolding opcode
+unfolding opcode rowIn appendixB
 returns-98 c =
     let a = c .before .before .before .before .before .before .before .before .before .before .before .args in
     let p = c .before .before .before .before .before .before .before .before .before .before .before .pre in
@@ -1716,7 +1716,7 @@ returns-98 c =
     (sto _ _ _ _ h l (a .facts) t _ _ (up 0) _ _ _ (here _ _) (c .store .ensures) refl (enough (a .region .now) _ _ _ (c .before .before .few8 .ensures) (c .before .if11 .left)))
 
 returns-99 : tie.Need-returns-99
-unfolding opcode
+unfolding opcode rowIn appendixB
 returns-99 c =
     let a = c .before .before .before .before .before .before .before .before .before .before .before .args in
     let p = c .before .before .before .before .before .before .before .before .before .before .before .pre in
@@ -1725,7 +1725,7 @@ returns-99 c =
     (sto _ _ _ _ h l (a .facts) t _ _ globals _ _ _ (at-globals _ _) (c .store2 .ensures) refl (enough (a .region .now) _ _ _ (c .before .before .few9 .ensures) (c .before .if12 .left)))
 
 returns-100 : tie.Need-returns-100
-unfolding opcode
+unfolding opcode rowIn appendixB
 returns-100 c =
     let a = c .before .before .before .before .before .before .before .before .before .before .before .before .before .before .before .before .before .before .before .before .args in
     let p = c .before .before .before .before .before .before .before .before .before .before .before .before .before .before .before .before .before .before .before .before .pre in
@@ -1734,7 +1734,7 @@ returns-100 c =
     (sto _ _ _ _ h l (a .facts) t _ _ (up _) _ _ _ (walked _ _ _ _ (c .before .before .before .before .walk4 .ensures) _ (c .before .before .rec4 .given .1)) (c .store3 .ensures) refl (enough (a .region .now) _ _ _ (c .before .before .before .before .before .before .few10 .ensures) (c .before .before .before .before .before .if14 .left)))
 
 returns-101 : tie.Need-returns-101
-unfolding opcode
+unfolding opcode rowIn appendixB
 returns-101 c =
     let a = c .before .before .before .before .before .before .before .before .before .before .before .before .before .args in
     let p = c .before .before .before .before .before .before .before .before .before .before .before .before .before .pre in
@@ -1743,7 +1743,7 @@ returns-101 c =
     (lod _ _ _ _ h l (a .facts) t _ _ (up 1) _ _ _ (walked _ _ 1 _ (c .before .before .before .before .walk5 .ensures) _ (c .before .before .rec5 .given .1)) (c .load4 .ensures) refl)
 
 returns-102 : tie.Need-returns-102
-unfolding opcode
+unfolding opcode rowIn appendixB
 returns-102 c =
     let a = c .before .before .before .before .before .before .before .before .before .before .before .before .before .args in
     let p = c .before .before .before .before .before .before .before .before .before .before .before .before .before .pre in
@@ -1752,7 +1752,7 @@ returns-102 c =
     (lod _ _ _ _ h l (a .facts) t _ _ (up 2) _ _ _ (walked _ _ 2 _ (c .before .before .before .before .walk6 .ensures) _ (c .before .before .rec6 .given .1)) (c .load5 .ensures) refl)
 
 returns-103 : tie.Need-returns-103
-unfolding opcode
+unfolding opcode rowIn appendixB
 returns-103 c =
     let a = c .before .before .before .before .before .before .before .before .before .before .args in
     let p = c .before .before .before .before .before .before .before .before .before .before .pre in
@@ -1761,7 +1761,7 @@ returns-103 c =
     (bin _ _ _ _ h l (a .facts) t _ _ eqOf _ _ _ (c .give-two6 .ensures) (c .before .equal .ensures) (c .before .before .before .nos8 .ensures) (c .before .before .tos8 .ensures) (enough (a .region .now) _ _ _ (c .before .before .before .before .before .few11 .ensures) (c .before .before .before .before .if15 .left)))
 
 returns-104 : tie.Need-returns-104
-unfolding opcode
+unfolding opcode rowIn appendixB
 returns-104 c =
     let a = c .before .before .before .before .before .before .before .before .before .before .args in
     let p = c .before .before .before .before .before .before .before .before .before .before .pre in
@@ -1770,7 +1770,7 @@ returns-104 c =
     (bin _ _ _ _ h l (a .facts) t _ _ neOf _ _ _ (c .give-two7 .ensures) (c .before .differ .ensures) (c .before .before .before .nos9 .ensures) (c .before .before .tos9 .ensures) (enough (a .region .now) _ _ _ (c .before .before .before .before .before .few12 .ensures) (c .before .before .before .before .if16 .left)))
 
 returns-105 : tie.Need-returns-105
-unfolding opcode
+unfolding opcode rowIn appendixB
 returns-105 c =
     let a = c .before .before .before .before .before .before .before .before .before .before .args in
     let p = c .before .before .before .before .before .before .before .before .before .before .pre in
@@ -1779,7 +1779,7 @@ returns-105 c =
     (bin _ _ _ _ h l (a .facts) t _ _ leqOf _ _ _ (c .give-two8 .ensures) (c .before .leq .ensures) (c .before .before .before .nos10 .ensures) (c .before .before .tos10 .ensures) (enough (a .region .now) _ _ _ (c .before .before .before .before .before .few13 .ensures) (c .before .before .before .before .if17 .left)))
 
 returns-106 : tie.Need-returns-106
-unfolding opcode
+unfolding opcode rowIn appendixB
 returns-106 c =
     let a = c .before .before .before .before .before .before .before .before .before .before .args in
     let p = c .before .before .before .before .before .before .before .before .before .before .pre in
@@ -1788,7 +1788,7 @@ returns-106 c =
     (bin _ _ _ _ h l (a .facts) t _ _ geqOf _ _ _ (c .give-two9 .ensures) (c .before .geq .ensures) (c .before .before .before .nos11 .ensures) (c .before .before .tos11 .ensures) (enough (a .region .now) _ _ _ (c .before .before .before .before .before .few14 .ensures) (c .before .before .before .before .if18 .left)))
 
 returns-107 : tie.Need-returns-107
-unfolding opcode
+unfolding opcode rowIn appendixB
 returns-107 c =
     let a = c .before .before .before .before .before .before .before .before .before .before .args in
     let p = c .before .before .before .before .before .before .before .before .before .before .pre in
@@ -1797,7 +1797,7 @@ returns-107 c =
     (bin _ _ _ _ h l (a .facts) t _ _ leuOf _ _ _ (c .give-two10 .ensures) (c .before .leu .ensures) (c .before .before .before .nos12 .ensures) (c .before .before .tos12 .ensures) (enough (a .region .now) _ _ _ (c .before .before .before .before .before .few15 .ensures) (c .before .before .before .before .if19 .left)))
 
 returns-108 : tie.Need-returns-108
-unfolding opcode
+unfolding opcode rowIn appendixB
 returns-108 c =
     let a = c .before .before .before .before .before .before .before .before .before .before .args in
     let p = c .before .before .before .before .before .before .before .before .before .before .pre in
@@ -1806,7 +1806,7 @@ returns-108 c =
     (bin _ _ _ _ h l (a .facts) t _ _ geuOf _ _ _ (c .give-two11 .ensures) (c .before .geu .ensures) (c .before .before .before .nos13 .ensures) (c .before .before .tos13 .ensures) (enough (a .region .now) _ _ _ (c .before .before .before .before .before .few16 .ensures) (c .before .before .before .before .if20 .left)))
 
 returns-109 : tie.Need-returns-109
-unfolding opcode
+unfolding opcode rowIn appendixB
 returns-109 c =
     let a = c .before .before .before .before .before .before .before .before .args in
     let p = c .before .before .before .before .before .before .before .before .pre in
@@ -1815,7 +1815,7 @@ returns-109 c =
     (swp _ _ _ _ h l (a .facts) t _ _ _ _ (swaps _ _ _ _) (c .before .nos14 .ensures) (c .tos14 .ensures) (enough (a .region .now) _ _ _ (c .before .before .before .few17 .ensures) (c .before .before .if21 .left)))
 
 returns-110 : tie.Need-returns-110
-unfolding opcode
+unfolding opcode rowIn appendixB
 returns-110 c =
     let a = c .before .before .before .before .before .before .before .args in
     let p = c .before .before .before .before .before .before .before .pre in
@@ -1824,7 +1824,7 @@ returns-110 c =
     (sta _ _ _ _ h l (a .facts) t _ _ (c .store-at .ensures) (enough (a .region .now) _ _ _ (c .before .before .few18 .ensures) (c .before .if22 .left)))
 
 returns-111 : tie.Need-returns-111
-unfolding opcode
+unfolding opcode rowIn appendixB
 returns-111 c =
     let a = c .before .before .before .before .before .before .before .args in
     let p = c .before .before .before .before .before .before .before .pre in
@@ -1833,7 +1833,7 @@ returns-111 c =
     (chk _ _ _ _ h l (a .facts) t _ _ (c .check-range .ensures) (enough (a .region .now) _ _ _ (c .before .before .few19 .ensures) (c .before .if23 .left)))
 
 returns-112 : tie.Need-returns-112
-unfolding opcode
+unfolding opcode rowIn appendixB
 returns-112 c =
     let a = c .before .before .before .before .before .before .before .before .before .before .before .args in
     let p = c .before .before .before .before .before .before .before .before .before .before .before .pre in
@@ -1842,7 +1842,7 @@ returns-112 c =
     (bra _ _ _ _ h l (a .facts) t _ _ 0 _ (c .branch .ensures) (enough (a .region .now) _ _ _ (c .before .before .few20 .ensures) (c .before .if24 .left)))
 
 returns-113 : tie.Need-returns-113
-unfolding opcode
+unfolding opcode rowIn appendixB
 returns-113 c =
     let a = c .before .before .before .before .before .before .before .before .before .before .before .args in
     let p = c .before .before .before .before .before .before .before .before .before .before .before .pre in
@@ -1851,7 +1851,7 @@ returns-113 c =
     (bra _ _ _ _ h l (a .facts) t _ _ 0 _ (c .branch2 .ensures) (enough (a .region .now) _ _ _ (c .before .before .few21 .ensures) (c .before .if25 .left)))
 
 returns-114 : tie.Need-returns-114
-unfolding opcode
+unfolding opcode rowIn appendixB
 returns-114 c =
     let a = c .before .before .before .before .before .before .before .before .before .args in
     let p = c .before .before .before .before .before .before .before .before .before .pre in
@@ -1860,7 +1860,7 @@ returns-114 c =
     (un _ _ _ _ h l (a .facts) t _ _ magOf _ _ (c .give-one .ensures) (c .before .mag .ensures) (c .before .before .tos15 .ensures) (enough (a .region .now) _ _ _ (c .before .before .before .before .few22 .ensures) (c .before .before .before .if26 .left)))
 
 returns-115 : tie.Need-returns-115
-unfolding opcode
+unfolding opcode rowIn appendixB
 returns-115 c =
     let a = c .before .before .before .before .before .before .before .before .before .args in
     let p = c .before .before .before .before .before .before .before .before .before .pre in
@@ -1869,7 +1869,7 @@ returns-115 c =
     (un _ _ _ _ h l (a .facts) t _ _ negOf _ _ (c .give-one2 .ensures) (c .before .neg .ensures) (c .before .before .tos16 .ensures) (enough (a .region .now) _ _ _ (c .before .before .before .before .few23 .ensures) (c .before .before .before .if27 .left)))
 
 returns-116 : tie.Need-returns-116
-unfolding opcode
+unfolding opcode rowIn appendixB
 returns-116 c =
     let a = c .before .before .before .before .before .before .before .before .args in
     let p = c .before .before .before .before .before .before .before .before .pre in
@@ -1878,7 +1878,7 @@ returns-116 c =
     (dup _ _ _ _ h l (a .facts) t _ _ _ (c .push4 .ensures) (c .before .tos17 .ensures) (enough (a .region .now) _ _ _ (c .before .before .before .few24 .ensures) (c .before .before .if28 .left)))
 
 returns-117 : tie.Need-returns-117
-unfolding opcode
+unfolding opcode rowIn appendixB
 returns-117 c =
     let a = c .before .before .before .before .before .before .before .before .before .args in
     let p = c .before .before .before .before .before .before .before .before .before .pre in
@@ -1887,7 +1887,7 @@ returns-117 c =
     (un _ _ _ _ h l (a .facts) t _ _ notOf _ _ (c .give-one3 .ensures) (c .before .bit-not .ensures) (c .before .before .tos18 .ensures) (enough (a .region .now) _ _ _ (c .before .before .before .before .few25 .ensures) (c .before .before .before .if29 .left)))
 
 returns-118 : tie.Need-returns-118
-unfolding opcode
+unfolding opcode rowIn appendixB
 returns-118 c =
     let a = c .before .before .before .before .before .before .before .before .before .before .before .before .before .args in
     let p = c .before .before .before .before .before .before .before .before .before .before .before .before .before .pre in
@@ -1896,7 +1896,7 @@ returns-118 c =
     (ind _ _ _ _ h l (a .facts) t _ _ _ _ _ _ (c .give-read .ensures) (c .before .read-at .ensures) refl (c .before .before .tos19 .ensures) (p .1 .1 .0) (enough (a .region .now) _ _ _ (c .before .before .before .before .few26 .ensures) (c .before .before .before .if30 .left)))
 
 returns-119 : tie.Need-returns-119
-unfolding opcode
+unfolding opcode rowIn appendixB
 returns-119 c =
     let a = c .before .before .before .before .before .before .before .before .before .args in
     let p = c .before .before .before .before .before .before .before .before .before .pre in
@@ -1905,7 +1905,7 @@ returns-119 c =
     (un _ _ _ _ h l (a .facts) t _ _ incOf _ _ (c .give-one4 .ensures) (c .before .inc .ensures) (c .before .before .tos20 .ensures) (enough (a .region .now) _ _ _ (c .before .before .before .before .few27 .ensures) (c .before .before .before .if31 .left)))
 
 returns-120 : tie.Need-returns-120
-unfolding opcode
+unfolding opcode rowIn appendixB
 returns-120 c =
     let a = c .before .before .before .before .before .before .before .before .before .args in
     let p = c .before .before .before .before .before .before .before .before .before .pre in
@@ -1914,7 +1914,7 @@ returns-120 c =
     (un _ _ _ _ h l (a .facts) t _ _ decOf _ _ (c .give-one5 .ensures) (c .before .dec .ensures) (c .before .before .tos21 .ensures) (enough (a .region .now) _ _ _ (c .before .before .before .before .few28 .ensures) (c .before .before .before .if32 .left)))
 
 returns-121 : tie.Need-returns-121
-unfolding opcode
+unfolding opcode rowIn appendixB
 returns-121 c =
     let a = c .before .before .before .before .before .before .before .before .before .before .before .before .before .before .args in
     let p = c .before .before .before .before .before .before .before .before .before .before .before .before .before .before .pre in
@@ -1923,7 +1923,7 @@ returns-121 c =
     (cal _ _ _ _ h l (a .facts) t _ _ (up 1) _ _ _ (walked _ _ 1 _ (c .before .before .before .before .before .walk7 .ensures) _ (c .before .before .before .rec7 .given .1)) (c .call4 .ensures) (c .before .enter4 .ensures))
 
 returns-122 : tie.Need-returns-122
-unfolding opcode
+unfolding opcode rowIn appendixB
 returns-122 c =
     let a = c .before .before .before .before .before .before .before .before .before .before .before .before .before .before .args in
     let p = c .before .before .before .before .before .before .before .before .before .before .before .before .before .before .pre in
@@ -1932,7 +1932,7 @@ returns-122 c =
     (cal _ _ _ _ h l (a .facts) t _ _ (up 2) _ _ _ (walked _ _ 2 _ (c .before .before .before .before .before .walk8 .ensures) _ (c .before .before .before .rec8 .given .1)) (c .call5 .ensures) (c .before .enter5 .ensures))
 
 returns-123 : tie.Need-returns-123
-unfolding opcode
+unfolding opcode rowIn appendixB
 returns-123 c =
     let a = c .before .before .before .before .before .before .before .before .before .before .before .args in
     let p = c .before .before .before .before .before .before .before .before .before .before .before .pre in

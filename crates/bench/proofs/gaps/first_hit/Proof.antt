@@ -1,5 +1,5 @@
 -- `bench::gaps::first_hit` meets its contract. What it cites of this crate's laws is in proofs/Lowest.
-use Rattle.bench.specs.Entries.{first, hits}
+use Rattle.bench.specs.Entries.{firstPlace, hits}
 use mathlib.Core.Bool.{not}
 use lib.ListN.{length, drop}
 use Prim.Native.Nat.{_≤_, _-_, _+_}
@@ -11,7 +11,7 @@ use Rattle.bench.proofs.gaps.first_hit.Statement.{statement}
 use Rattle.bench.proofs.gaps.first_hit.Tie as tie
 
 abbrev Inv-loop : tie.InvT-loop
-Inv-loop a len sessions i₀ i = (i ≤ 16) × (first (hits a len) sessions ≡ first (hits a len) (drop i sessions) + i)
+Inv-loop a len sessions i₀ i = (i ≤ 16) × (firstPlace (hits a len) sessions ≡ firstPlace (hits a len) (drop i sessions) + i)
 
 abbrev μ-loop : tie.MeasureT-loop
 μ-loop a len sessions i₀ i = 16 - i

@@ -1,5 +1,5 @@
 -- `bench::gaps::first_unused` meets its contract. What it cites of this crate's laws is in proofs/Lowest.
-use Rattle.bench.specs.Entries.{first, unused}
+use Rattle.bench.specs.Entries.{firstPlace, unused}
 use lib.ListN.{length, drop}
 use Prim.Native.Nat.{_≤_, _-_, _+_}
 use Rattle.bench.proofs.Lowest as gaps
@@ -10,7 +10,7 @@ use Rattle.bench.proofs.gaps.first_unused.Statement.{statement}
 use Rattle.bench.proofs.gaps.first_unused.Tie as tie
 
 abbrev Inv-loop : tie.InvT-loop
-Inv-loop sessions i₀ i = (i ≤ 16) × (first unused sessions ≡ first unused (drop i sessions) + i)
+Inv-loop sessions i₀ i = (i ≤ 16) × (firstPlace unused sessions ≡ firstPlace unused (drop i sessions) + i)
 
 abbrev μ-loop : tie.MeasureT-loop
 μ-loop sessions i₀ i = 16 - i

@@ -1,5 +1,5 @@
 -- `plan::stack::give_read` meets its contract. Assumes nothing.
-use Rattle.plan.specs.Answer.{outcomeOf, given}
+use Rattle.plan.specs.Answer.{outcomeOf, gives}
 use borrow.Author.Needs.{needs}
 use Rattle.plan.proofs.stack.give_read.Statement.{statement}
 use Rattle.plan.proofs.stack.give_read.Tie as tie
@@ -11,11 +11,11 @@ enum-told : tie.Need-enum-told
 enum-told c = search needs
 
 returns : tie.Need-returns
-unfolding outcomeOf given
+unfolding outcomeOf gives
 returns c = simp (c .before .x .given .1)
 
 returns-2 : tie.Need-returns-2
-unfolding outcomeOf given
+unfolding outcomeOf gives
 returns-2 c = simp (c .enum-told .given .1)
 
 pub give-read-spec : {M : Type 1} → statement M
