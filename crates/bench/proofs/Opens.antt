@@ -22,19 +22,9 @@ use Rattle.bench.specs.declared.Gap.{Gap}
 use Rattle.bench.specs.declared.Gap.the-variants.{At, Full}
 use Rattle.bench.specs.declared.Answer.the-variants.{Done, Refused}
 use Rattle.bench.specs.Answer.{Result, resultOf, done}
-use Rattle.bench.specs.Entries.{isSound, loadedAt, lenOk, firstPlace, unused, recordFor, lowest, gapAt, gapOf, gapFor, found, placeIn, fresh, opens, openOf}
+use Rattle.bench.specs.Entries.{isSound, loadedAt, openChecks, lenOk, firstPlace, unused, recordFor, lowest, gapAt, gapOf, gapFor, found, placeIn, fresh, opens, openOf}
 use Rattle.bench.proofs.Refusing.{passes, refuses}
 use Rattle.bench.proofs.Lowest.{lowest-passes}
-
--- the checks of an opening
-abbrev pub checksOf : List ℕ → ℕ → ℕ → World → List Check
-checksOf store slot len w =
-    check 11 0 (isSound store w)
-    ∷ check 12 0 (loadedAt w slot)
-    ∷ check 13 0 (lenOk (codeOf store (getD (w .bench .slots) slot noSlot)) len)
-    ∷ check 14 0 (leb (recordFor w) 15)
-    ∷ check 15 0 (found (gapFor w len))
-    ∷ []
 
 module _ (store m : List ℕ) (b : Bench) (h : soundB b m store ≡ true) where
   pub small : b .n ≤ 1048576
@@ -107,4 +97,4 @@ module _ (store m : List ℕ) (b : Bench) (slot len : ℕ) where
             opened-at x a c code eo ec f ex =
                 ex
                 ∙ (λ j. opens slot len ((ec ∙ ap (λ (s : List ℕ). startOf s len) eo) j) (ei j) (sym (ap placeIn (sym eg ∙ f)) j) (worldOf b m))
-                ∙ sym (passes (checksOf store slot len (worldOf b m)) (worldOf b m) _ (h, (loaded, (lk, (left, (ap found (sym eg ∙ f), tt))))))
+                ∙ sym (passes (openChecks store slot len (worldOf b m)) (worldOf b m) _ (h, (loaded, (lk, (left, (ap found (sym eg ∙ f), tt))))))

@@ -10,6 +10,10 @@ use Rattle.bench.specs.declared.Answer.{Answer}
 use Rattle.bench.specs.declared.Answer.the-variants.{Done, Refused}
 
 -- the paper's number, place and value of each case: a request that was done has no refusal number, one that was refused has no value
+abbrev pub answerRuling : Answer → Ruling
+answerRuling (Done v) = passed
+answerRuling (Refused n p) = refused n p
+
 abbrev pub numberOf : Answer → ℕ
 numberOf (Done v) = 0
 numberOf (Refused n p) = n

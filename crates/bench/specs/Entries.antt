@@ -6,7 +6,7 @@ use Prim.Native.Nat.{ℕ, zero, suc, _+_, _-_, _%_}
 use lib.Dec.{leb, eqb}
 use lib.ListN.{length, getD, set, replicate}
 use Rattle.basis.specs.Bools.{every}
-use Rattle.basis.specs.Checks.{check}
+use Rattle.basis.specs.Checks.{Check, check, Ruling, passed, refused, isPassed}
 use Rattle.basis.specs.Part.{splice}
 use Rattle.sound.specs.Below.{SessionState, Cpu, cpuOf, checks, floorOf, startOf, runOf, countOf}
 use Rattle.sound.specs.Bench.{noSlot, noSession, codeOf, slotAt, World, worldOf, sessionAt, sharedOf, codeAt, stateAt, at-cpu, at-sessions, at-slots}
@@ -50,14 +50,16 @@ freeSlot w slot = leb slot 15 && not (slotAt (w .bench .slots) slot .loaded)
 abbrev pub rangeOk : List ℕ → ℕ → ℕ → Bool
 rangeOk store start len = eqb (start % 2) 0 && leb (start + len) (length store)
 
-unfoldable pub loadOf : List ℕ → ℕ → ℕ → ℕ → World → Result
-loadOf store slot start len w =
-    refusing
-    (check 11 0 (isSound store w)
+abbrev pub loadChecks : List ℕ → ℕ → ℕ → ℕ → World → List Check
+loadChecks store slot start len w =
+    check 11 0 (isSound store w)
     ∷ check 12 0 (freeSlot w slot)
     ∷ check 17 0 (rangeOk store start len)
-    ∷ checks (codeOf store (loadedSlot start len)))
-    w
+    ∷ checks (codeOf store (loadedSlot start len))
+
+unfoldable pub loadOf : List ℕ → ℕ → ℕ → ℕ → World → Result
+loadOf store slot start len w =
+    refusing (loadChecks store slot start len w) w
     (done 0 (worldOf (at-slots (w .bench) (set (w .bench .slots) slot (loadedSlot start len))) (w .mem)))
 
 -- ---- opening: 11, 12, 13, 14, 15
@@ -104,9 +106,13 @@ gapOf sessions s n len = lowest (gapAt sessions s n len) (n + 1) 0
 abbrev pub gapFor : World → ℕ → Gap
 gapFor w len = gapOf (w .bench .sessions) (w .bench .s) (w .bench .n) len
 
+-- the paper's number of each case of the code's answer, and its value
+abbrev pub gapRuling : Gap → Ruling
+gapRuling (At a) = passed
+gapRuling Full = refused 15 0
+
 abbrev pub found : Gap → Bool
-found (At a) = true
-found Full = false
+found g = isPassed (gapRuling g)
 
 abbrev pub placeIn : Gap → ℕ
 placeIn (At a) = a
@@ -124,16 +130,18 @@ fresh slot a len c = record { used = true; slot = slot; base = a; len = len; cpu
 abbrev pub opens : ℕ → ℕ → Cpu → ℕ → ℕ → World → Result
 opens slot len c i a w = done i (cleared i (fresh slot a len c) a (a + len) w)
 
-unfoldable pub openOf : List ℕ → ℕ → ℕ → World → Result
-openOf store slot len w =
-    refusing
-    (check 11 0 (isSound store w)
+abbrev pub openChecks : List ℕ → ℕ → ℕ → World → List Check
+openChecks store slot len w =
+    check 11 0 (isSound store w)
     ∷ check 12 0 (loadedAt w slot)
     ∷ check 13 0 (lenOk (codeOf store (slotAt (w .bench .slots) slot)) len)
     ∷ check 14 0 (leb (recordFor w) 15)
     ∷ check 15 0 (found (gapFor w len))
-    ∷ [])
-    w
+    ∷ []
+
+unfoldable pub openOf : List ℕ → ℕ → ℕ → World → Result
+openOf store slot len w =
+    refusing (openChecks store slot len w) w
     (opens slot len (startOf (codeOf store (slotAt (w .bench .slots) slot)) len) (recordFor w) (placeIn (gapFor w len)) w)
 
 -- ---- a turn: 11, 12, 16
@@ -156,15 +164,21 @@ put i st w =
     (splice (sessionAt w i .base) (sessionAt w i .base + sessionAt w i .len) (st .words) (w .mem))
 
 -- 16: "a turn of more than 65,535 steps"
+abbrev pub turnChecks : List ℕ → ℕ → ℕ → World → List Check
+turnChecks store i k w = check 11 0 (isSound store w) ∷ check 12 0 (openAt w i) ∷ check 16 0 (leb k 65535) ∷ []
+
 unfoldable pub turnOf : List ℕ → ℕ → ℕ → World → Result
 turnOf store i k w =
-    refusing (check 11 0 (isSound store w) ∷ check 12 0 (openAt w i) ∷ check 16 0 (leb k 65535) ∷ []) w
+    refusing (turnChecks store i k w) w
     (done (doneOf store i k w) (put i (ranOf store i k w) w))
 
 -- ---- closing: 11, 12
 
 -- "Closing zeroes the region and frees region and record."
+abbrev pub closeChecks : List ℕ → ℕ → World → List Check
+closeChecks store i w = check 11 0 (isSound store w) ∷ check 12 0 (openAt w i) ∷ []
+
 unfoldable pub closeOf : List ℕ → ℕ → World → Result
 closeOf store i w =
-    refusing (check 11 0 (isSound store w) ∷ check 12 0 (openAt w i) ∷ []) w
+    refusing (closeChecks store i w) w
     (done 0 (cleared i noSession (sessionAt w i .base) (sessionAt w i .base + sessionAt w i .len) w))

@@ -40,9 +40,13 @@ unfoldable pub reached : List ℕ → ℕ → Whose → Link
 reached w m globals = reaches 1
 reached w m (up d) = follow w m d
 
+-- its fault, 0 where there is none, and the record
+abbrev pub linkFault : Link → ℕ
+linkFault (reaches m) = 0
+linkFault broken = 9
+
 abbrev pub isBroken : Link → Bool
-isBroken (reaches m) = false
-isBroken broken = true
+isBroken link = eqb (linkFault link) 9
 
 abbrev pub recordOf : Link → ℕ
 recordOf (reaches m) = m

@@ -24,10 +24,9 @@ use Rattle.bench.specs.declared.Answer.the-variants.{Done, Refused}
 use Rattle.basis.specs.Checks.{check}
 use Rattle.basis.proofs.Checks.{Passing}
 use Rattle.bench.specs.Answer.{numberOf, Result, refusing}
-use Rattle.bench.specs.Entries.{isSound, loadedAt, lenOk, firstPlace, unused, recordFor, clearOf, lowest, gapAt, gapOf, gapFor, found, placeIn, cleared, fresh, opens, openOf}
+use Rattle.bench.specs.Entries.{isSound, loadedAt, openChecks, lenOk, firstPlace, unused, recordFor, clearOf, lowest, gapAt, gapOf, gapFor, found, placeIn, cleared, fresh, opens, openOf}
 use Rattle.bench.proofs.Refusing.{passes, stops, by-checks}
 use Rattle.bench.proofs.Lowest.{first-at, lowest-passes}
-use Rattle.bench.proofs.Opens.{checksOf}
 use Rattle.promises.specs.Words.{InRegion, Free, GapFrom, Opens}
 use Rattle.promises.proofs.Zeros.{zeroed, only}
 
@@ -162,7 +161,7 @@ module _ (store : List ℕ) (w : World) (slot len : ℕ) (g : Sound store w) whe
     unfolding openOf
     number-by Full e n = refl
     number-by (At a) e n =
-        let q = passes (checksOf store slot len w) w (opens slot len (startOf (codeOf store (slotAt (w .bench .slots) slot)) len) (recordFor w) (placeIn (gapFor w len)) w) (g .sound, (ld, (lk, (le-leb _ _ left, (ap found e, tt))))) in
+        let q = passes (openChecks store slot len w) w (opens slot len (startOf (codeOf store (slotAt (w .bench .slots) slot)) len) (recordFor w) (placeIn (gapFor w len)) w) (g .sound, (ld, (lk, (le-leb _ _ left, (ap found e, tt))))) in
         let z : _≡_ {A = ℕ} 0 15 = sym (ap (λ (r : Result). numberOf (r .answer)) q) ∙ n in
         absurd (omega arith)
 
@@ -180,7 +179,7 @@ module _ (store : List ℕ) (w : World) (slot len : ℕ) (g : Sound store w) whe
         (λ n. none-found store w g len (number-by (gapFor w len) refl n) (len-some (codeOf store (slotAt (w .bench .slots) slot)) len lk), refused-by (gapFor w len) refl)
 
   -- what an opening that is done has done
-  done-by : Passing (checksOf store slot len w) → (r : Gap) → gapFor w len ≡ r → Opens store slot len w (cleared (recordFor w) (fresh slot (placeIn r) len (startOf (codeOf store (slotAt (w .bench .slots) slot)) len)) (placeIn r) (placeIn r + len) w) (recordFor w)
+  done-by : Passing (openChecks store slot len w) → (r : Gap) → gapFor w len ≡ r → Opens store slot len w (cleared (recordFor w) (fresh slot (placeIn r) len (startOf (codeOf store (slotAt (w .bench .slots) slot)) len)) (placeIn r) (placeIn r + len) w) (recordFor w)
   done-by p Full e = absurd (false≢true (sym (ap found e) ∙ p .1 .1 .1 .1 .0))
   done-by p (At a) e =
       let lo : recordFor w ≤ 15 = leb-true _ _ (p .1 .1 .1 .0) in
@@ -202,6 +201,6 @@ module _ (store : List ℕ) (w : World) (slot len : ℕ) (g : Sound store w) whe
   pub opened-is : (i : ℕ) → openOf store slot len w .answer ≡ Done i → Opens store slot len w (openOf store slot len w .world) i
   unfolding openOf
   opened-is i =
-      by-checks (λ r. r .answer ≡ Done i → Opens store slot len w (r .world) i) (checksOf store slot len w) w _
+      by-checks (λ r. r .answer ≡ Done i → Opens store slot len w (r .world) i) (openChecks store slot len w) w _
       (λ n q e. let z : _≡_ {A = ℕ} 0 1 = cc in absurd (omega arith))
       (λ p e. let z : recordFor w ≡ i = cc in rw (← z) (done-by p (gapFor w len) refl))
