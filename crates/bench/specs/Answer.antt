@@ -14,14 +14,6 @@ abbrev pub answerRuling : Answer → Ruling
 answerRuling (Done v) = passed
 answerRuling (Refused n p) = refused n p
 
-abbrev pub numberOf : Answer → ℕ
-numberOf (Done v) = 0
-numberOf (Refused n p) = n
-
-abbrev pub placeOf : Answer → ℕ
-placeOf (Done v) = 0
-placeOf (Refused n p) = p
-
 abbrev pub valueOf : Answer → ℕ
 valueOf (Done v) = v
 valueOf (Refused n p) = 0

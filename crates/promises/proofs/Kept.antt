@@ -1,5 +1,6 @@
 -- A new bench is sound, and loading, opening and closing keep a sound bench sound. (Turns: isolation's law of one turn.)
 -- Above: Promises. Below: sound's facts, bench's laws of a list of checks and of the lowest gap, the laws of the start.
+use mathlib.Core.Logic.{_↔_}
 use mathlib.Core.Path.{_≡_, refl, sym, ap, _∙_}
 use mathlib.Core.List.{List, [], _∷_}
 use mathlib.Core.Bool.{Bool, true, false, cond, _&&_, _||_, not, false≢true, or-true}
@@ -13,8 +14,8 @@ use Rattle.basis.specs.Bools.{every}
 use Rattle.basis.proofs.Bools.{every-holds, holds-every, and-fst, and-snd}
 use Rattle.basis.specs.Part.{splice}
 use Rattle.basis.proofs.Part.{length-splice}
-use Rattle.basis.specs.Checks.{passed}
-use Rattle.basis.proofs.Checks.{Passing, is-passed, all-passed}
+use Rattle.basis.specs.Checks.{passed, refused}
+use Rattle.basis.proofs.Checks.{Passing, never, is-passed, all-passed}
 use Rattle.sound.specs.Below.{judged, Cpu, startOf}
 use Rattle.sound.specs.Bench.{codeOf, slotAt, slotOf, noSlot, noSession, World, worldOf, sessionAt, at-sessions, at-slots}
 use Rattle.sound.specs.Sound.{all, limitsOk, slotOk, placed, apart, allApart, sessionOk, soundB, Sound}
@@ -27,7 +28,7 @@ use Rattle.sound.proofs.Facts.{Parts, put-together, parts, long, opened, slot-g
 use Rattle.bench.specs.declared.Gap.{Gap}
 use Rattle.bench.specs.declared.Gap.the-variants.{At, Full}
 use Rattle.bench.specs.declared.Answer.the-variants.{Done, Refused}
-use Rattle.bench.specs.Answer.{numberOf, Result, refusing}
+use Rattle.bench.specs.Answer.{answerRuling, Result, refusing}
 use Rattle.bench.specs.Entries.{emptyBench, newOf, loadedSlot, rangeOk, loadOf, lenOk, recordFor, clearOf, gapAt, gapOf, gapFor, found, placeIn, cleared, fresh, openOf, openAt, closeOf}
 use Rattle.bench.proofs.Refusing.{by-checks}
 use Rattle.bench.proofs.Lowest.{lowest-passes}
@@ -154,15 +155,24 @@ load-sound store w g slot start len =
     by-checks (λ r. Sound store (r .world)) _ w _ (λ _ _. g)
     (λ p. loaded-good store w g slot start len (not-true _ (and-snd (leb slot 15) (not (slotAt (w .bench .slots) slot .loaded)) (p .1 .0))) (p .1 .1 .0) (all-passed _ (p .1 .1 .1)))
 
-pub new-sound : (store m : List ℕ) (n s : ℕ) → numberOf (newOf n s .answer) ≡ 0 → length m ≡ n → Sound store (worldOf (newOf n s .bench) m)
+-- a new bench is refused exactly where its limits are not kept
+pub new-answers : (n s : ℕ) → (answerRuling (newOf n s .answer) ≡ refused 17 0) ↔ (limitsOk n s ≡ false)
+unfolding newOf
+new-answers n s = (go (limitsOk n s) refl, λ h. rw h)
+  where
+    go : (b : Bool) → limitsOk n s ≡ b → answerRuling (newOf n s .answer) ≡ refused 17 0 → limitsOk n s ≡ false
+    go true l h = absurd (never (rw l) h)
+    go false l h = l
+
+pub new-sound : (store m : List ℕ) (n s : ℕ) → answerRuling (newOf n s .answer) ≡ passed → length m ≡ n → Sound store (worldOf (newOf n s .bench) m)
 unfolding newOf soundB slotOk placed sessionOk apart
 new-sound store m n s h e = go (limitsOk n s) refl h
   where
-    go : (b : Bool) → limitsOk n s ≡ b → numberOf (newOf n s .answer) ≡ 0 → Sound store (worldOf (newOf n s .bench) m)
+    go : (b : Bool) → limitsOk n s ≡ b → answerRuling (newOf n s .answer) ≡ passed → Sound store (worldOf (newOf n s .bench) m)
     go true l h =
         rw l
         (record {
           sixteen = refl;
           sound = holds-every _ (l, (eq-eqb (length m) n e, (refl, (refl, (refl, (refl, tt))))));
         })
-    go false l h = let z : _≡_ {A = ℕ} 17 0 = rw l at h in absurd (omega arith)
+    go false l h = absurd (never {n = 17} {p = 0} h (rw l))

@@ -1,7 +1,6 @@
 -- The proofs of the promises.
 pub mod Kept
-pub mod Refused
 pub mod Zeros
 pub mod Openings
 pub mod Closings
-pub mod Promises
+pub mod Requests

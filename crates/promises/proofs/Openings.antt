@@ -21,9 +21,9 @@ use Rattle.sound.proofs.Facts.{long, used-in, opened}
 use Rattle.bench.specs.declared.Gap.{Gap}
 use Rattle.bench.specs.declared.Gap.the-variants.{At, Full}
 use Rattle.bench.specs.declared.Answer.the-variants.{Done, Refused}
-use Rattle.basis.specs.Checks.{check}
-use Rattle.basis.proofs.Checks.{Passing}
-use Rattle.bench.specs.Answer.{numberOf, Result, refusing}
+use Rattle.basis.specs.Checks.{check, refused}
+use Rattle.basis.proofs.Checks.{Passing, never}
+use Rattle.bench.specs.Answer.{answerRuling, Result, refusing}
 use Rattle.bench.specs.Entries.{isSound, loadedAt, openChecks, lenOk, firstPlace, unused, recordFor, clearOf, lowest, gapAt, gapOf, gapFor, found, placeIn, cleared, fresh, opens, openOf}
 use Rattle.bench.proofs.Refusing.{passes, stops, by-checks}
 use Rattle.bench.proofs.Lowest.{first-at, lowest-passes}
@@ -157,24 +157,23 @@ module _ (store : List ℕ) (w : World) (slot len : ℕ) (g : Sound store w) whe
   code = codeOf store (slotAt (w .bench .slots) slot)
 
   module _ (ld : loadedAt w slot ≡ true) (lk : lenOk (codeOf store (slotAt (w .bench .slots) slot)) len ≡ true) (left : recordFor w ≤ 15) where
-    number-by : (r : Gap) → gapFor w len ≡ r → numberOf (openOf store slot len w .answer) ≡ 15 → r ≡ Full
+    number-by : (r : Gap) → gapFor w len ≡ r → answerRuling (openOf store slot len w .answer) ≡ refused 15 0 → r ≡ Full
     unfolding openOf
     number-by Full e n = refl
     number-by (At a) e n =
         let q = passes (openChecks store slot len w) w (opens slot len (startOf (codeOf store (slotAt (w .bench .slots) slot)) len) (recordFor w) (placeIn (gapFor w len)) w) (g .sound, (ld, (lk, (le-leb _ _ left, (ap found e, tt))))) in
-        let z : _≡_ {A = ℕ} 0 15 = sym (ap (λ (r : Result). numberOf (r .answer)) q) ∙ n in
-        absurd (omega arith)
+        absurd (never (ap (λ (r : Result). answerRuling (r .answer)) q) n)
 
-    refused-by : (r : Gap) → gapFor w len ≡ r → ((a : ℕ) → GapFrom w len a → ⊥) → numberOf (openOf store slot len w .answer) ≡ 15
+    refused-by : (r : Gap) → gapFor w len ≡ r → ((a : ℕ) → GapFrom w len a → ⊥) → answerRuling (openOf store slot len w .answer) ≡ refused 15 0
     unfolding openOf
     refused-by Full e n =
-        ap (λ (r : Result). numberOf (r .answer))
+        ap (λ (r : Result). answerRuling (r .answer))
         (stops (check 11 0 (isSound store w) ∷ check 12 0 (loadedAt w slot) ∷ check 13 0 (lenOk (codeOf store (slotAt (w .bench .slots) slot)) len) ∷ check 14 0 (leb (recordFor w) 15) ∷ []) 15 (found (gapFor w len)) [] w
         (opens slot len (startOf (codeOf store (slotAt (w .bench .slots) slot)) len) (recordFor w) (placeIn (gapFor w len)) w)
         (g .sound, (ld, (lk, (le-leb _ _ left, tt)))) (ap found e))
     refused-by (At a) e n = absurd (n a (gap-free store w g len a (is-gap store w g len a e)))
 
-    pub fifteen : (numberOf (openOf store slot len w .answer) ≡ 15) ↔ ((a : ℕ) → GapFrom w len a → ⊥)
+    pub fifteen : (answerRuling (openOf store slot len w .answer) ≡ refused 15 0) ↔ ((a : ℕ) → GapFrom w len a → ⊥)
     fifteen =
         (λ n. none-found store w g len (number-by (gapFor w len) refl n) (len-some (codeOf store (slotAt (w .bench .slots) slot)) len lk), refused-by (gapFor w len) refl)
 

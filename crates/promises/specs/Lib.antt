@@ -1,3 +1,3 @@
--- Promises on the entries of a bench. Below: bench, sound.
+-- What a request to a bench is; which words are free; what an opening and a closing do. Above: demands. Below: bench, sound.
+pub mod Requests
 pub mod Words
-pub mod Promises

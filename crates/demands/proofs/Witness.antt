@@ -9,7 +9,7 @@ use Rattle.basis.specs.Part.{part, splice}
 use Rattle.operand.specs.Bytes.{wordBy}
 use Rattle.operand.specs.Operand.{given, fetched}
 use Rattle.segment.specs.Head.{least, word, dict, reloc, pool, count, entry, datasize, exitic, start, sexBytes}
-use Rattle.basis.specs.Checks.{ruling}
+use Rattle.basis.specs.Checks.{passed, ruling}
 use Rattle.segment.specs.Judge.{headChecks, routineChecks, routinesFrom, checks, judged}
 use Rattle.pmachine.specs.Opcode.{opcode, rowIn, appendixB}
 use Rattle.pmachine.specs.Decoding.{joined, andThen, operands, lawful, allLawful, decodedWith, rowDecoded, decode}
@@ -19,35 +19,30 @@ use Rattle.pmachine.specs.Run.{isReady, written, settled, step, run, stepsDone}
 use Rattle.session.specs.Session.{startOf, cpuOk, runOf, countOf}
 use Rattle.sound.specs.Bench.{World, worldOf}
 use Rattle.sound.specs.Sound.{limitsOk, slotOk, placed, apart, sessionOk, soundB, Sound}
-use Rattle.bench.specs.Answer.{numberOf, refusing}
+use Rattle.bench.specs.Answer.{answerRuling, ruled, refusing}
 use Rattle.bench.specs.Entries.{newOf, loadOf, lenOk, gapAt, gapOf, openOf, turnOf, closeOf}
-use Rattle.promises.specs.Promises.{Promises}
-use Rattle.promises.proofs.Promises.{promises}
-use Rattle.witness.specs.Witness.{segment, store, loaded, opened, ran, openings, full, Witness}
+use Rattle.promises.specs.Requests.{loading, opening, turning}
+use Rattle.promises.proofs.Kept.{new-sound}
+use Rattle.promises.proofs.Requests.{stays-sound}
+use Rattle.demands.specs.Witness.{segment, store, loaded, opened, ran, openings, full, Witness}
 
-made : numberOf (newOf 56 4 .answer) ≡ 0
+made : answerRuling (newOf 56 4 .answer) ≡ passed
 unfolding newOf limitsOk every
 made = refl
 
 made-sound : Sound store (worldOf (newOf 56 4 .bench) (replicate 56 0))
-made-sound = promises .new-sound store (replicate 56 0) 56 4 made refl
+made-sound = new-sound store (replicate 56 0) 56 4 made refl
 
 ran-sound : Sound store ran
 unfolding ran opened loaded
 ran-sound =
-    promises .turn-sound store _
-    (promises .turn-sound store _
-    (promises .open-sound store _
-    (promises .open-sound store _
-    (promises .open-sound store _
-    (promises .load-sound store _
-    (promises .load-sound store _ made-sound 0 0 32)
-    1 32 32)
-    0 16)
-    1 16)
-    0 16)
-    1 1)
-    2 9
+    stays-sound store (turning 2 9) _
+    (stays-sound store (turning 1 1) _
+    (stays-sound store (opening 0 16) _
+    (stays-sound store (opening 1 16) _
+    (stays-sound store (opening 0 16) _
+    (stays-sound store (loading 1 32 32) _
+    (stays-sound store (loading 0 0 32) _ made-sound))))))
 
 pub witness : Witness
 unfolding segment store loaded opened ran openings full every inside part splice wordBy given fetched least word dict reloc pool count entry datasize exitic start sexBytes headChecks routineChecks routinesFrom checks ruling judged opcode rowIn appendixB joined andThen operands lawful allLawful decodedWith rowDecoded decode markAt resumes groundFor firstFault asks effect outcome judgedBy judge kindInRange inRange starting isReady written settled step run stepsDone startOf cpuOk runOf countOf limitsOk slotOk placed apart sessionOk soundB refusing newOf loadOf lenOk gapAt gapOf openOf turnOf closeOf

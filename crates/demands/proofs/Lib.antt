@@ -1,0 +1,3 @@
+-- The proofs of all that is promised, from the theorems of the layers below.
+pub mod Witness
+pub mod Demands

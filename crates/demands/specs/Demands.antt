@@ -1,0 +1,186 @@
+-- ALL THAT IS PROMISED, under the maintainer's three demands and in their order. Each statement is written out here, in terms of definitions alone,
+-- and proofs/Demands proves the record: a theorem that is deleted or weakened anywhere below no longer fits, and the build breaks. That the code's
+-- entries are these definitions is said by the functions of src/, which state every entry's contract again. docs/PROMISES.md follows this file.
+use mathlib.Core.Path.{_≡_}
+use mathlib.Core.Logic.{_↔_}
+use mathlib.Core.List.{List, [], _∷_, _++_, map}
+use mathlib.Core.Bool.{Bool, true, false, not, _||_}
+use Prim.Native.Nat.{ℕ, _+_, _*_, _-_, _/_, _≤_, _<_}
+use lib.ListN.{length, getD, take, drop}
+use Rattle.basis.specs.Checks.{Check, passed, refused, ruling, passes, FirstFailing}
+use Rattle.operand.specs.Bytes.{byteAt}
+use Rattle.operand.specs.Operand.{Form, got, out, fetched}
+use Rattle.segment.specs.Head.{least, word, dict, reloc, pool, real, count, entry, datasize, exitic, start}
+use Rattle.segment.specs.Judge.{checks, judged}
+use Rattle.turning.specs.Turn.{position, swapAt, turned, turnRuling, outputOf}
+use Rattle.interleave.specs.Interleave.{By, mine, oneByOne, Below}
+use Rattle.sound.specs.Below.{startOf, cpuOf, runOf, countOf}
+use Rattle.sound.specs.Bench.{noSession, codeOf, slotAt, World, worldOf, sessionAt, sharedOf, wordsOf, codeAt, stateAt, at-cpu, at-sessions}
+use Rattle.sound.specs.Sound.{limitsOk, Sound}
+use Rattle.bench.specs.declared.Out.{Out}
+use Rattle.bench.specs.declared.Answer.{Answer}
+use Rattle.bench.specs.declared.Answer.the-variants.{Done, Refused}
+use Rattle.bench.specs.Answer.{answerRuling, Result, resultOf}
+use Rattle.bench.specs.Entries.{newOf, loadedAt, lenOk, recordFor, openOf, fresh, ranOf, doneOf, turnOf, openAt, closeOf}
+use Rattle.promises.specs.Requests.{Request, asked, checksFor}
+use Rattle.promises.specs.Words.{InRegion, Free, GapFrom}
+use Rattle.isolation.specs.Isolation.{Turn, after, answersOf, stepsOf, reported, reportsOf}
+use Rattle.demands.specs.Witness.{Witness}
+
+-- ---- words and records after an opening or a closing: from w to v, the len words from a on become zero, no other word changes, and only
+-- session record i of the bench changes
+
+pub record OnlyThere (w v : World) (i a len : ℕ) : Type 0 where
+  pub zero-in : (j : ℕ) → a ≤ j → j < a + len → getD (v .mem) j 0 ≡ 0
+  pub same-below : (j : ℕ) → j < a → getD (v .mem) j 0 ≡ getD (w .mem) j 0
+  pub same-above : (j : ℕ) → a + len ≤ j → getD (v .mem) j 0 ≡ getD (w .mem) j 0
+  pub as-long : length (v .mem) ≡ length (w .mem)
+  pub same-bench : v .bench ≡ at-sessions (w .bench) (v .bench .sessions)
+  pub same-others : (j : ℕ) → (j ≡ i → ⊥) → sessionAt v j ≡ sessionAt w j
+
+-- "Opening gives the lowest gap that fits, from word S up, and the lowest unused record, sets every word of the region to zero, and
+-- starts routine 1."
+pub record Opened (store : List ℕ) (slot len : ℕ) (w v : World) (i : ℕ) : Type 0 where
+  pub place : ℕ
+  pub gap : GapFrom w len place
+  pub lowest-gap : (b : ℕ) → b < place → GapFrom w len b → ⊥
+  pub low : i ≤ 15
+  pub unused : sessionAt w i .used ≡ false
+  pub lowest-record : (j : ℕ) → j < i → sessionAt w j .used ≡ true
+  pub made : sessionAt v i ≡ fresh slot place len (startOf (codeOf store (slotAt (w .bench .slots) slot)) len)
+  pub only : OnlyThere w v i place len
+
+-- "Closing zeroes the region and frees region and record."
+pub record Closed (w v : World) (i : ℕ) : Type 0 where
+  pub freed-record : sessionAt v i ≡ noSession
+  pub freed-words : (j : ℕ) → InRegion w i j → Free v j
+  pub only : OnlyThere w v i (sessionAt w i .base) (sessionAt w i .len)
+
+-- ---- t is s in the other byte sex
+
+pub record OtherSex (s t : List ℕ) : Type 0 where
+  -- swapped at each word position, copied elsewhere
+  pub size : length t ≡ length s
+  pub lows : (w : ℕ) → position s w ≡ true → byteAt t (2 * w) ≡ byteAt s (2 * w + 1)
+  pub highs : (w : ℕ) → position s w ≡ true → byteAt t (2 * w + 1) ≡ byteAt s (2 * w)
+  pub others : (i : ℕ) → position s (i / 2) ≡ false → byteAt t i ≡ byteAt s i
+  -- "reads with the same header numbers and routines"
+  pub sex : least t ≡ not (least s)
+  pub same-dict : dict t ≡ dict s
+  pub same-reloc : reloc t ≡ reloc s
+  pub same-pool : pool t ≡ pool s
+  pub same-real : real t ≡ real s
+  pub same-reserved : (word t 9 ≡ word s 9) × (word t 10 ≡ word s 10)
+  pub same-count : count t ≡ count s
+  pub same-entry : (k : ℕ) → 1 ≤ k → k ≤ count s → entry t k ≡ entry s k
+  pub same-datasize : (k : ℕ) → 1 ≤ k → k ≤ count s → datasize t k ≡ datasize s k
+  pub same-exitic : (k : ℕ) → 1 ≤ k → k ≤ count s → exitic t k ≡ exitic s k
+  pub same-start : (k : ℕ) → 1 ≤ k → k ≤ count s → start t k ≡ start s k
+  pub same-positions : (w : ℕ) → position t w ≡ position s w
+  pub same-verdict : judged t ≡ judged s
+  -- "turned twice gives its first bytes"
+  pub twice : turned t ≡ s
+
+-- ---- session i after the turns ts: what the documented machine makes of its own state, on its own region, its own code and the shared words, in
+-- as many steps as its own turns come to
+
+pub record OnItsOwn (store : List ℕ) (ts : List Turn) (w : World) (i : ℕ) : Type 0 where
+  pub words : wordsOf (after store ts w) (sessionAt w i) ≡ runOf (stepsOf (mine i ts)) (codeAt store w i) (sharedOf w) (stateAt w i) .words
+  pub registers : sessionAt (after store ts w) i ≡ at-cpu (sessionAt w i) (cpuOf (runOf (stepsOf (mine i ts)) (codeAt store w i) (sharedOf w) (stateAt w i)))
+  pub answers : mine i (answersOf store ts w) ≡ reportsOf (codeAt store w i) (sharedOf w) (mine i ts) (stateAt w i)
+  pub counts : reported (mine i (answersOf store ts w)) ≡ countOf (stepsOf (mine i ts)) (codeAt store w i) (sharedOf w) (stateAt w i)
+
+-- session i of one world and session j of another: both are open, and agree on registers, kind, region, code and shared words. Record
+-- numbers, slots, places in memory, the memories' sizes and all that other sessions hold may differ.
+pub record Alike (store : List ℕ) (w : World) (i : ℕ) (store′ : List ℕ) (w′ : World) (j : ℕ) : Type 0 where
+  pub open-here : sessionAt w i .used ≡ true
+  pub open-there : sessionAt w′ j .used ≡ true
+  pub cpu : sessionAt w i .cpu ≡ sessionAt w′ j .cpu
+  pub words : wordsOf w (sessionAt w i) ≡ wordsOf w′ (sessionAt w′ j)
+  pub code : codeAt store w i ≡ codeAt store′ w′ j
+  pub shared : sharedOf w ≡ sharedOf w′
+
+pub record Demands : Type 0 where
+  -- ======== 1: "Any bytes, any numbers, any bench may be handed to any entry point. It ends, and either does the work or gives one numbered
+  -- refusal, with every lent word and byte unchanged."
+
+  -- "Given exactly when": a refusal is that of the first check, in the order, that fails; nothing is refused exactly when every check passes
+  pub refuses-exactly : (cs : List Check) (n p : ℕ) → (ruling cs ≡ refused n p) ↔ FirstFailing cs n p
+  pub accepts-exactly : (cs : List Check) → (ruling cs ≡ passed) ↔ (passes cs ≡ true)
+  -- so for segments, for turning, and for every request to a bench: number and place of the answer are the ruling of its checks
+  pub judged-by : (s : List ℕ) → judged s ≡ ruling (checks s)
+  pub turned-by : (s : List ℕ) (room n p : ℕ) → judged s ≡ refused n p → turnRuling s room ≡ refused n p
+  pub turned-nine : (s : List ℕ) (room : ℕ) → judged s ≡ passed → (pool s ≡ 0 → ⊥) → turnRuling s room ≡ refused 9 0
+  pub turned-ten : (s : List ℕ) (room : ℕ) → judged s ≡ passed → pool s ≡ 0 → room < length s → turnRuling s room ≡ refused 10 0
+  pub turned-passed : (s : List ℕ) (room : ℕ) → judged s ≡ passed → pool s ≡ 0 → length s ≤ room → turnRuling s room ≡ passed
+  pub answers : (store : List ℕ) (q : Request) (w : World) → answerRuling (asked store q w .answer) ≡ ruling (checksFor store q w)
+  pub new-answers : (n s : ℕ) → (answerRuling (newOf n s .answer) ≡ refused 17 0) ↔ (limitsOk n s ≡ false)
+  -- a refusal changes nothing, whatever the bench, sound or not; "Turning writes the first 2W output bytes and no others", and none if it refuses
+  pub unchanged : (store : List ℕ) (q : Request) (w : World) (n p : ℕ) → answerRuling (asked store q w .answer) ≡ refused n p → asked store q w .world ≡ w
+  pub output-unchanged : (s o : List ℕ) (n p : ℕ) → turnRuling s (length o) ≡ refused n p → outputOf s o ≡ o
+  pub output-size : (s o : List ℕ) → length (outputOf s o) ≡ length o
+  pub output-first : (s o : List ℕ) → turnRuling s (length o) ≡ passed → take (length s) (outputOf s o) ≡ turned s
+  pub output-rest : (s o : List ℕ) → drop (length s) (outputOf s o) ≡ drop (length s) o
+  -- a new bench is sound for every memory of its size and every store, and every request leads from a sound bench to a sound bench
+  pub new-sound : (store m : List ℕ) (n s : ℕ) → answerRuling (newOf n s .answer) ≡ passed → length m ≡ n → Sound store (worldOf (newOf n s .bench) m)
+  pub stays-sound : (store : List ℕ) (q : Request) (w : World) → Sound store w → Sound store (asked store q w .world)
+  -- if 11 to 14 do not apply: refusal 15 exactly when there is no gap of L free words; else the session is opened
+  pub fifteen :
+      (store : List ℕ) (w : World) (slot len : ℕ) → Sound store w → loadedAt w slot ≡ true → lenOk (codeOf store (slotAt (w .bench .slots) slot)) len ≡ true
+      → recordFor w ≤ 15 → (answerRuling (openOf store slot len w .answer) ≡ refused 15 0) ↔ ((a : ℕ) → GapFrom w len a → ⊥)
+  pub opened :
+      (store : List ℕ) (w : World) (slot len i : ℕ) → Sound store w → openOf store slot len w .answer ≡ Done i
+      → Opened store slot len w (openOf store slot len w .world) i
+  -- an open session is closed
+  pub closed :
+      (store : List ℕ) (w : World) (i : ℕ) → Sound store w → openAt w i ≡ true
+      → (closeOf store i w .answer ≡ Done 0) × Closed w (closeOf store i w .world) i
+  -- "Answers allowed by the same contract are shown equal": answer, bench and memory
+  pub one-answer : (r r′ : Out) (m m′ : List ℕ) (x : Result) → resultOf r m ≡ x → resultOf r′ m′ ≡ x → (r ≡ r′) × (m ≡ m′)
+  -- an operand that is there has one byte or two and ends inside the segment; of one that is not, the place is the first byte past the end
+  pub operand-there : (f : Form) (s : List ℕ) (at v n : ℕ) → fetched f s at ≡ got v n → (at < n) × (n ≤ at + 2) × (n ≤ length s)
+  pub operand-cut : (f : Form) (s : List ℕ) (at p : ℕ) → fetched f s at ≡ out p → at ≤ length s → p ≡ length s
+  -- none of this is empty: a bench with a session of every kind, an accepted turn of each, and every refusal 11 to 17
+  pub witness : Witness
+
+  -- ======== 2: "A segment without a constant pool, turned to the other byte sex, reads with the same header numbers and routines, and the same
+  -- code outside those words, and turned twice gives its first bytes."
+
+  pub other-sex : (s : List ℕ) → judged s ≡ passed → pool s ≡ 0 → OtherSex s (turned s)
+  -- of the entry itself: turned into an output of its own length, and that turned into another
+  pub turns-back :
+      (s a b : List ℕ) → turnRuling s (length a) ≡ passed → length a ≡ length s → length b ≡ length s
+      → (turnRuling (outputOf s a) (length b) ≡ passed) × (outputOf (outputOf s a) b ≡ s)
+  -- "once, even if two rules name it"
+  pub once : (p q : ℕ → Bool) (s o : List ℕ) → swapAt q s (swapAt p s o) ≡ swapAt (λ w. p w || q w) s o
+
+  -- ======== 3: "Take a sound bench and any accepted turns, with no opening, closing or loading between them, and memory and code touched by
+  -- nobody else." That is what `after` says: each turn begins with the world that the one before it left. Refused turns may be among them.
+
+  pub turns-stay-sound : (store : List ℕ) (ts : List Turn) (w : World) → Sound store w → Sound store (after store ts w)
+  pub in-turn : (store : List ℕ) (ts : List Turn) (w : World) → map (λ (a : By Answer). a .who) (answersOf store ts w) ≡ map (λ (t : Turn). t .who) ts
+  -- "The end is the same as when each session takes its own turns alone, one session after another": session 0's, then session 1's, up to
+  -- session n - 1 (16 sessions, or more numbers if some are asked for, which are refused); and so are the answers
+  pub one-after-another : (store : List ℕ) (n : ℕ) (ts : List Turn) (w : World) → Sound store w → Below n ts → after store ts w ≡ after store (oneByOne n ts) w
+  pub one-after-another-answers :
+      (store : List ℕ) (n : ℕ) (ts : List Turn) (w : World) → Sound store w → Below n ts
+      → (i : ℕ) → mine i (answersOf store ts w) ≡ mine i (answersOf store (oneByOne n ts) w)
+  -- in any order: two lists with the same turns of each session, in each session's order
+  pub in-any-order :
+      (store : List ℕ) (ts us : List Turn) (w : World) → Sound store w → ((i : ℕ) → mine i ts ≡ mine i us) → after store ts w ≡ after store us w
+  pub same-answers :
+      (store : List ℕ) (ts us : List Turn) (w : World) → Sound store w → ((i : ℕ) → mine i ts ≡ mine i us)
+      → (i : ℕ) → mine i (answersOf store ts w) ≡ mine i (answersOf store us w)
+  -- "each session's words, registers, kind and step counts are those of the documented machine run on its own region, its own code and the
+  -- read-only shared words"
+  pub on-its-own : (store : List ℕ) (ts : List Turn) (w : World) → Sound store w → (i : ℕ) → sessionAt w i .used ≡ true → OnItsOwn store ts w i
+  pub not-open :
+      (store : List ℕ) (ts : List Turn) (w : World) → Sound store w → (i : ℕ) → sessionAt w i .used ≡ false
+      → mine i (answersOf store ts w) ≡ map (λ (k : ℕ). Refused 12 0) (mine i ts)
+  -- sessions that are alike, and take the same turns, have the same answers and are alike at the end, whatever the others hold and do
+  pub two-runs :
+      (store store′ : List ℕ) (ts us : List Turn) (w w′ : World) (i j : ℕ) → Sound store w → Sound store′ w′ → mine i ts ≡ mine j us
+      → Alike store w i store′ w′ j → mine i (answersOf store ts w) ≡ mine j (answersOf store′ us w′)
+  pub two-ends :
+      (store store′ : List ℕ) (ts us : List Turn) (w w′ : World) (i j : ℕ) → Sound store w → Sound store′ w′ → mine i ts ≡ mine j us
+      → Alike store w i store′ w′ j → Alike store (after store ts w) i store′ (after store′ us w′) j

@@ -1,0 +1,97 @@
+// Every entry point once more: each function calls one entry and states its contract again, so that a contract that is weakened below breaks the
+// build here. Nobody calls them. What is promised of the definitions that they name is the record in specs/Demands. Below: every layer.
+use bench::Out;
+use operand::Operand;
+use segment::Routine;
+use segment::Segment;
+use segment::Verdict;
+use sound::Bench;
+ghost use mathlib.Core.Path.{_≡_};
+ghost use lib.ListN.{length};
+ghost use Rattle.basis.specs.Checks.{isPassed};
+ghost use Rattle.operand.specs.Operand.{fetched, fetchedOf, formAt};
+ghost use Rattle.segment.specs.Head.{headOf, routineOf};
+ghost use Rattle.segment.specs.Judge.{judged, rulingOf};
+ghost use Rattle.turning.specs.Turn.{turnRuling, outputOf};
+ghost use Rattle.sound.specs.Bench.{worldOf};
+ghost use Rattle.sound.specs.Sound.{soundB};
+ghost use Rattle.bench.specs.Answer.{resultOf};
+ghost use Rattle.bench.specs.Entries.{newOf, loadOf, openOf, turnOf, closeOf};
+
+// ---- any bytes: a segment
+
+pub fn head(seg: &[u8]) -> Segment
+    ensures { λ r. ⌜ r ≡ headOf (now (seg .entry)) ⌝ }
+{
+    segment::head(seg)
+}
+
+pub fn routine(seg: &[u8], k: u16) -> Routine
+    ensures { λ r. ⌜ r ≡ routineOf (now (seg .entry)) k ⌝ }
+{
+    segment::routine_of(seg, k)
+}
+
+pub fn judge(seg: &[u8]) -> Verdict
+    ensures { λ r. ⌜ rulingOf r ≡ judged (now (seg .entry)) ⌝ }
+{
+    checks::judge(seg)
+}
+
+pub fn accepts(seg: &[u8]) -> bool
+    ensures { λ r. ⌜ r ≡ isPassed (judged (now (seg .entry))) ⌝ }
+{
+    checks::accepts(seg)
+}
+
+pub fn turn_segment(seg: &[u8], out: &mut [u8]) -> Verdict
+    ensures answer { λ r. ⌜ rulingOf r ≡ turnRuling (now (seg .entry)) (length (now (out .entry))) ⌝ }
+    ensures output { λ r. ⌜ now (out .exit) ≡ outputOf (now (seg .entry)) (now (out .entry)) ⌝ }
+{
+    turning::turn(seg, out)
+}
+
+// An operand at any offset, of the form with this number.
+pub fn operand(seg: &[u8], at: usize, form: u8) -> Operand
+    ensures { λ r. ⌜ fetchedOf r ≡ fetched (formAt form) (now (seg .entry)) at ⌝ }
+{
+    reader::read_at(seg, at, form)
+}
+
+// ---- any bench, any memory, any store, any numbers
+
+pub fn sound(b: Bench, memory: &[u16], store: &[u8]) -> bool
+    ensures { λ r. ⌜ r ≡ soundB b (now (memory .entry)) (now (store .entry)) ⌝ }
+{
+    sound::sound(b, memory, store)
+}
+
+pub fn new_bench(n: usize, s: usize) -> Out
+    ensures { λ r. ⌜ r ≡ newOf n s ⌝ }
+{
+    bench::new_bench(n, s)
+}
+
+pub fn load(b: Bench, memory: &[u16], store: &[u8], slot: usize, start: usize, len: usize) -> Out
+    ensures { λ r. ⌜ resultOf r (now (memory .entry)) ≡ loadOf (now (store .entry)) slot start len (worldOf b (now (memory .entry))) ⌝ }
+{
+    bench::load(b, memory, store, slot, start, len)
+}
+
+pub fn open_session(b: Bench, memory: &mut [u16], store: &[u8], slot: usize, len: usize) -> Out
+    ensures { λ r. ⌜ resultOf r (now (memory .exit)) ≡ openOf (now (store .entry)) slot len (worldOf b (now (memory .entry))) ⌝ }
+{
+    bench::open_session(b, memory, store, slot, len)
+}
+
+pub fn turn(b: Bench, memory: &mut [u16], store: &[u8], i: usize, k: u64) -> Out
+    ensures { λ r. ⌜ resultOf r (now (memory .exit)) ≡ turnOf (now (store .entry)) i k (worldOf b (now (memory .entry))) ⌝ }
+{
+    bench::turn(b, memory, store, i, k)
+}
+
+pub fn close(b: Bench, memory: &mut [u16], store: &[u8], i: usize) -> Out
+    ensures { λ r. ⌜ resultOf r (now (memory .exit)) ≡ closeOf (now (store .entry)) i (worldOf b (now (memory .entry))) ⌝ }
+{
+    bench::close(b, memory, store, i)
+}

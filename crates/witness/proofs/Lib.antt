@@ -1,2 +1,0 @@
--- The computation of the example.
-pub mod Witness

@@ -1,2 +1,0 @@
--- A bench that is not vacuous. Below: promises, bench.
-pub mod Witness
