@@ -1,4 +1,5 @@
--- "the first byte is judged for 1 and 2 before its operands are fetched": what the code's decoder answers.
+-- MIRROR OF THE CODE, for the proofs; nobody has to believe it. "the first byte is judged for 1 and 2 before its operands are fetched": what the code's
+-- decoder answers, and that the rest of the definition's decoding follows it (`first-decode` of proofs/).
 -- Above: the judgement of a step; below: the opcode definition of `pmachine`.
 use Prim.Native.Nat.{ℕ, _+_}
 use mathlib.Core.List.{List}

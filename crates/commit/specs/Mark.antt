@@ -1,4 +1,4 @@
--- The mark that a call writes. Above: the contract of `mark`, and the step; below: nothing.
+-- MIRROR OF THE CODE, for the proofs; nobody has to believe it: the mark that a call writes is in Step of `pmachine`. Above: the contract of `mark`, and the step; below: nothing.
 use Prim.Native.Nat.{ℕ}
 use mathlib.Core.List.{List, [], _∷_}
 use lib.ListN.{getD}

@@ -1,4 +1,4 @@
--- What the small functions answer: an operand by its digit in the packed table, and what stands there once the first operand is known.
+-- MIRROR OF THE CODE, for the proofs; nobody has to believe it. What the small functions answer: an operand by its digit in the packed table, and what stands there once the first operand is known.
 -- Above: the contracts of `by_form` and `second_operand`; below: Standing. Assumes nothing.
 use Prim.Native.Nat.{ℕ}
 use mathlib.Core.List.{List}

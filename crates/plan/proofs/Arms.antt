@@ -21,7 +21,8 @@ use Rattle.plan.specs.declared.Facts.{Facts}
 use Rattle.plan.specs.declared.Planned.the-variants.{Move, Swap, Bad}
 use Rattle.plan.specs.declared.Read.{Read}
 use Rattle.plan.specs.declared.Entry.{Entry}
-use Rattle.plan.specs.Answer.{regsOf, outcomeOf, pushed, one, two, gives, divided, checked, loaded, addressed, stored, readAt, storedAt, pooled, jumped, branched, entered, called, returned}
+use Rattle.plan.specs.Answer.{regsOf, outcomeOf}
+use Rattle.plan.specs.Mirror.{pushed, one, two, gives, divided, checked, loaded, addressed, stored, readAt, storedAt, pooled, jumped, branched, entered, called, returned}
 use Rattle.plan.specs.Told.{Told}
 use Rattle.plan.proofs.Meanings.{instr, few-words, is-constant, is-duplicate, is-nothing, is-swap, is-unary, is-binary, is-division, is-load, is-address, is-store, no-load, no-address, no-store, no-call, is-pool, is-indirect, is-subrange, is-jump, is-branch, is-index, is-call, is-return}
 

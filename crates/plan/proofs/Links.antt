@@ -15,7 +15,7 @@ use Rattle.segment.specs.Head.{least, word, dict, count, entry, datasize, start
 use Rattle.pmachine.specs.Step.{floor}
 use Rattle.plan.specs.declared.Facts.{Facts}
 use Rattle.plan.specs.declared.Entry.the-variants.{To, Not}
-use Rattle.plan.specs.Answer.{entered, inOrder}
+use Rattle.plan.specs.Mirror.{entered, inOrder}
 use Rattle.plan.specs.Told.{sexOf, Told}
 
 -- below n + 1 is n at most

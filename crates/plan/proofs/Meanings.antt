@@ -19,7 +19,7 @@ use Rattle.pmachine.specs.Step.{fault, goes, floor, reached, reaches, broken, r
 use Rattle.pmachine.specs.Sound.{Ranged}
 use Rattle.pmachine.proofs.Judged.{resumed}
 use Rattle.plan.specs.declared.Read.the-variants.{Value, Missing}
-use Rattle.plan.specs.Answer.{pushed, one, two, gives, divided, checked, loaded, addressed, stored, readAt, storedAt, pooled, inCode, jumped, branched, entered, called, inOrder, returned}
+use Rattle.plan.specs.Mirror.{pushed, one, two, gives, divided, checked, loaded, addressed, stored, readAt, storedAt, pooled, inCode, jumped, branched, entered, called, inOrder, returned}
 use Rattle.plan.proofs.Links.{below-suc}
 
 abbrev pub instr : Meaning → ℕ → ℕ → ℕ → Instruction

@@ -1,3 +1,4 @@
 -- What a reader of this crate must believe: its definitions and statements, a module each.
 pub mod Answer
+pub mod Mirror
 pub mod Told

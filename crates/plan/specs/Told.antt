@@ -1,4 +1,4 @@
--- What the code's `Facts` say of a segment. Above: the contracts that read routines; below: the header numbers of `segment`.
+-- MIRROR OF THE CODE, for the proofs; nobody has to believe it. What the code's `Facts` say of a segment. Above: the contracts that read routines; below: the header numbers of `segment`.
 use mathlib.Core.Path.{_≡_}
 use mathlib.Core.Bool.{Bool, true, false}
 use mathlib.Core.List.{List}

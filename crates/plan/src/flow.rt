@@ -11,7 +11,8 @@ ghost use Prim.Native.Nat.{_+_, _≤_, _<_};
 ghost use lib.ListN.{length};
 ghost use Rattle.pmachine.specs.Step.{follow, markAt, target};
 ghost use Rattle.pmachine.specs.Sound.{Loaded};
-ghost use Rattle.plan.specs.Answer.{regsOf, linkOf, outcomeOf, inCode, jumped, branched, entered, called, inOrder, returned};
+ghost use Rattle.plan.specs.Answer.{regsOf, linkOf, outcomeOf};
+ghost use Rattle.plan.specs.Mirror.{inCode, jumped, branched, entered, called, inOrder, returned};
 ghost use Rattle.plan.specs.Told.{Told};
 
 // A target that lies in the code, or 0.

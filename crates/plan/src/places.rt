@@ -8,7 +8,8 @@ use crate::stack::word_of;
 ghost use mathlib.Core.Path.{_≡_};
 ghost use Prim.Native.Nat.{_+_, _≤_, _<_};
 ghost use lib.ListN.{length};
-ghost use Rattle.plan.specs.Answer.{regsOf, outcomeOf, loaded, addressed, stored, readAt, storedAt, pooled};
+ghost use Rattle.plan.specs.Answer.{regsOf, outcomeOf};
+ghost use Rattle.plan.specs.Mirror.{loaded, addressed, stored, readAt, storedAt, pooled};
 
 // Offset a of the record at rec.
 pub fn load(region: &[u16], floor: usize, r: Regs, rec: usize, a: u16, next: usize) -> Planned

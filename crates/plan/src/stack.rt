@@ -8,7 +8,8 @@ ghost use Prim.Native.Nat.{_+_, _-_, _≤_, _<_};
 ghost use lib.Dec.{ltb};
 ghost use lib.ListN.{length, getD};
 ghost use Rattle.basis.specs.Integer.{quotOf, remOf};
-ghost use Rattle.plan.specs.Answer.{regsOf, outcomeOf, pushed, gives, one, two, divided, checked};
+ghost use Rattle.plan.specs.Answer.{regsOf, outcomeOf};
+ghost use Rattle.plan.specs.Mirror.{pushed, gives, one, two, divided, checked};
 
 // A word of a region, or of the shared words.
 pub fn word_of(words: &[u16], at: usize) -> u16

@@ -1,5 +1,6 @@
 -- `plan::flow::branch` meets its contract. Assumes nothing.
-use Rattle.plan.specs.Answer.{outcomeOf, branched}
+use Rattle.plan.specs.Answer.{outcomeOf}
+use Rattle.plan.specs.Mirror.{branched}
 use borrow.Author.Tests.{eq-eqb, ne-eqb}
 use borrow.Author.Needs.{needs}
 use Rattle.plan.proofs.flow.branch.Statement.{statement}

@@ -1,5 +1,6 @@
 -- `plan::flow::call` meets its contract. Assumes nothing.
-use Rattle.plan.specs.Answer.{outcomeOf, called}
+use Rattle.plan.specs.Answer.{outcomeOf}
+use Rattle.plan.specs.Mirror.{called}
 use borrow.Author.Needs.{needs}
 use Rattle.plan.proofs.flow.call.Statement.{statement}
 use Rattle.plan.proofs.flow.call.Tie as tie

@@ -1,7 +1,7 @@
 -- `plan::flow::enter` meets its contract. Assumes nothing.
 use native.Mathlib.Omega.{arith}
 use borrow.Author.Tests.{lt-ltb, le-ltb}
-use Rattle.plan.specs.Answer.{entered}
+use Rattle.plan.specs.Mirror.{entered}
 use Rattle.plan.proofs.Links.{entry-told, entered-told}
 use borrow.Author.Needs.{needs}
 use Rattle.plan.proofs.flow.enter.Statement.{statement}

@@ -1,5 +1,6 @@
 -- `plan::flow::give_back` meets its contract. Assumes nothing.
-use Rattle.plan.specs.Answer.{outcomeOf, returned}
+use Rattle.plan.specs.Answer.{outcomeOf}
+use Rattle.plan.specs.Mirror.{returned}
 use borrow.Author.Tests.{eq-eqb, ne-eqb}
 use borrow.Author.Needs.{needs}
 use Rattle.plan.proofs.flow.give_back.Statement.{statement}

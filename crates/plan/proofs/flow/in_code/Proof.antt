@@ -1,5 +1,5 @@
 -- `plan::flow::in_code` meets its contract. Assumes nothing.
-use Rattle.plan.specs.Answer.{inCode}
+use Rattle.plan.specs.Mirror.{inCode}
 use borrow.Author.Tests.{lt-ltb, le-ltb, le-leb, lt-leb}
 use Rattle.plan.proofs.flow.in_code.Statement.{statement}
 use Rattle.plan.proofs.flow.in_code.Tie as tie

@@ -5,7 +5,7 @@ use native.Mathlib.Omega.{arith}
 use lib.ListN.{getD}
 use borrow.Author.Tests.{le-leb, lt-leb, eq-eqb, ne-eqb}
 use Rattle.basis.specs.Bools.{inside}
-use Rattle.plan.specs.Answer.{inOrder}
+use Rattle.plan.specs.Mirror.{inOrder}
 use Rattle.plan.proofs.Links.{below-suc, order-last}
 use borrow.Author.Needs.{needs}
 use Rattle.plan.proofs.flow.in_order.Statement.{statement}

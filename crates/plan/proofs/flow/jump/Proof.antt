@@ -1,5 +1,6 @@
 -- `plan::flow::jump` meets its contract. Assumes nothing.
-use Rattle.plan.specs.Answer.{outcomeOf, jumped}
+use Rattle.plan.specs.Answer.{outcomeOf}
+use Rattle.plan.specs.Mirror.{jumped}
 use borrow.Author.Tests.{eq-eqb, ne-eqb}
 use borrow.Author.Needs.{needs}
 use Rattle.plan.proofs.flow.jump.Statement.{statement}

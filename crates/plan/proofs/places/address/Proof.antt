@@ -1,5 +1,6 @@
 -- `plan::places::address` meets its contract. Assumes nothing.
-use Rattle.plan.specs.Answer.{outcomeOf, addressed}
+use Rattle.plan.specs.Answer.{outcomeOf}
+use Rattle.plan.specs.Mirror.{addressed}
 use borrow.Author.Tests.{le-leb, lt-leb}
 use borrow.Author.Needs.{needs}
 use Rattle.plan.proofs.places.address.Statement.{statement}

@@ -1,5 +1,6 @@
 -- `plan::places::load` meets its contract. Assumes nothing.
-use Rattle.plan.specs.Answer.{outcomeOf, loaded}
+use Rattle.plan.specs.Answer.{outcomeOf}
+use Rattle.plan.specs.Mirror.{loaded}
 use borrow.Author.Tests.{le-leb, lt-leb}
 use borrow.Author.Needs.{needs}
 use Rattle.plan.proofs.places.load.Statement.{statement}

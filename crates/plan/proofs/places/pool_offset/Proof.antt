@@ -1,5 +1,6 @@
 -- `plan::places::pool_offset` meets its contract. Assumes nothing.
-use Rattle.plan.specs.Answer.{outcomeOf, pooled}
+use Rattle.plan.specs.Answer.{outcomeOf}
+use Rattle.plan.specs.Mirror.{pooled}
 use borrow.Author.Tests.{le-leb, lt-leb, eq-eqb, ne-eqb}
 use borrow.Author.Needs.{needs}
 use Rattle.plan.proofs.places.pool_offset.Statement.{statement}

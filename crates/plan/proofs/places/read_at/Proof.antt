@@ -1,5 +1,5 @@
 -- `plan::places::read_at` meets its contract. Assumes nothing.
-use Rattle.plan.specs.Answer.{readAt}
+use Rattle.plan.specs.Mirror.{readAt}
 use borrow.Author.Tests.{lt-ltb, le-ltb, le-leb, lt-leb}
 use borrow.Author.Needs.{needs}
 use Rattle.plan.proofs.places.read_at.Statement.{statement}

@@ -1,5 +1,6 @@
 -- `plan::places::store` meets its contract. Assumes nothing.
-use Rattle.plan.specs.Answer.{outcomeOf, stored}
+use Rattle.plan.specs.Answer.{outcomeOf}
+use Rattle.plan.specs.Mirror.{stored}
 use borrow.Author.Tests.{le-leb, lt-leb}
 use borrow.Author.Needs.{needs}
 use Rattle.plan.proofs.places.store.Statement.{statement}

@@ -1,5 +1,6 @@
 -- `plan::places::store_at` meets its contract. Assumes nothing.
-use Rattle.plan.specs.Answer.{outcomeOf, storedAt}
+use Rattle.plan.specs.Answer.{outcomeOf}
+use Rattle.plan.specs.Mirror.{storedAt}
 use borrow.Author.Tests.{lt-ltb, le-ltb, le-leb, lt-leb}
 use borrow.Author.Needs.{needs}
 use Rattle.plan.proofs.places.store_at.Statement.{statement}

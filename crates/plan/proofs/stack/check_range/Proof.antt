@@ -1,5 +1,6 @@
 -- `plan::stack::check_range` meets its contract. Assumes nothing.
-use Rattle.plan.specs.Answer.{outcomeOf, checked}
+use Rattle.plan.specs.Answer.{outcomeOf}
+use Rattle.plan.specs.Mirror.{checked}
 use borrow.Author.Tests.{eq-eqb, ne-eqb}
 use borrow.Author.Needs.{needs}
 use Rattle.plan.proofs.stack.check_range.Statement.{statement}

@@ -1,5 +1,6 @@
 -- `plan::stack::give_read` meets its contract. Assumes nothing.
-use Rattle.plan.specs.Answer.{outcomeOf, gives}
+use Rattle.plan.specs.Answer.{outcomeOf}
+use Rattle.plan.specs.Mirror.{gives}
 use borrow.Author.Needs.{needs}
 use Rattle.plan.proofs.stack.give_read.Statement.{statement}
 use Rattle.plan.proofs.stack.give_read.Tie as tie

@@ -1,5 +1,6 @@
 -- `plan::stack::push` meets its contract. Assumes nothing.
-use Rattle.plan.specs.Answer.{outcomeOf, pushed}
+use Rattle.plan.specs.Answer.{outcomeOf}
+use Rattle.plan.specs.Mirror.{pushed}
 use borrow.Author.Tests.{lt-ltb, le-ltb}
 use borrow.Author.Needs.{needs}
 use Rattle.plan.proofs.stack.push.Statement.{statement}

@@ -1,5 +1,6 @@
 -- `plan::stack::quotient` meets its contract. Assumes nothing.
-use Rattle.plan.specs.Answer.{outcomeOf, divided}
+use Rattle.plan.specs.Answer.{outcomeOf}
+use Rattle.plan.specs.Mirror.{divided}
 use borrow.Author.Tests.{eq-eqb, ne-eqb}
 use borrow.Author.Needs.{needs}
 use Rattle.plan.proofs.stack.quotient.Statement.{statement}
