@@ -4,17 +4,10 @@ use mathlib.Core.Path.{_≡_}
 use mathlib.Core.List.{List, [], _∷_}
 use Prim.Native.Nat.{ℕ, _+_, _*_, _<_}
 use lib.ListN.{getD}
-use Rattle.operand.specs.Operand.{Form, UB, SB, DB, B, W}
+use Rattle.operand.specs.Operand.{Form, digit}
 use Rattle.pmachine.specs.Opcode.{Row, carried, uncarried, opcode}
 
-abbrev pub digit : Form → ℕ
-digit UB = 1
-digit SB = 2
-digit DB = 3
-digit B = 4
-digit W = 5
-
--- the operands' digits to base 8, the first operand's the lowest
+-- the numbers of the operands' forms as digits to base 8, the first operand's the lowest
 unfoldable pub packedForms : List Form → ℕ
 packedForms [] = 0
 packedForms (f ∷ fs) = digit f + 8 * packedForms fs

@@ -7,7 +7,7 @@ use lib.ListN.{replicate}
 use Rattle.basis.specs.Bools.{every, inside}
 use Rattle.basis.specs.Part.{part, splice}
 use Rattle.operand.specs.Bytes.{wordBy}
-use Rattle.operand.specs.Operand.{given, fetched}
+use Rattle.operand.specs.Operand.{ifThere, fetched}
 use Rattle.segment.specs.Head.{least, word, dict, reloc, pool, count, entry, datasize, exitic, start, sexBytes}
 use Rattle.basis.specs.Checks.{passed, ruling}
 use Rattle.segment.specs.Judge.{headChecks, routineChecks, routinesFrom, checks, judged}
@@ -45,7 +45,7 @@ ran-sound =
     (stays-sound store (loading 0 0 32) _ made-sound))))))
 
 pub witness : Witness
-unfolding segment store loaded opened ran openings full every inside part splice wordBy given fetched least word dict reloc pool count entry datasize exitic start sexBytes headChecks routineChecks routinesFrom checks ruling judged opcode rowIn appendixB joined andThen operands lawful allLawful decodedWith rowDecoded decode markAt resumes groundFor firstFault asks effect outcome judgedBy judge kindInRange inRange starting isReady written settled step run stepsDone startOf cpuOk runOf countOf limitsOk slotOk placed apart sessionOk soundB refusing newOf loadOf lenOk gapAt gapOf openOf turnOf closeOf
+unfolding segment store loaded opened ran openings full every inside part splice wordBy ifThere fetched least word dict reloc pool count entry datasize exitic start sexBytes headChecks routineChecks routinesFrom checks ruling judged opcode rowIn appendixB joined andThen operands lawful allLawful decodedWith rowDecoded decode markAt resumes groundFor firstFault asks effect outcome judgedBy judge kindInRange inRange starting isReady written settled step run stepsDone startOf cpuOk runOf countOf limitsOk slotOk placed apart sessionOk soundB refusing newOf loadOf lenOk gapAt gapOf openOf turnOf closeOf
 witness =
     record {
       sound = ran-sound;

@@ -10,7 +10,7 @@ use borrow.Author.Tests.{leb-true, le-leb, lt-ltb}
 use Rattle.basis.specs.Bools.{inside}
 use Rattle.basis.proofs.Bools.{every-holds}
 use Rattle.operand.specs.Bytes.{byteAt}
-use Rattle.operand.specs.Operand.{Form, Fetched, got, out, fetched}
+use Rattle.operand.specs.Operand.{Form, Fetched, got, out, fetched, formAt}
 use Rattle.pmachine.specs.Meaning.{Meaning}
 use Rattle.pmachine.specs.Opcode.{Row, carried, uncarried, one, two, opcode}
 use Rattle.pmachine.specs.Decoding.{Operands, all, cut, joined, andThen, operands, decodedWith, rowDecoded, decode}
@@ -18,7 +18,7 @@ use Rattle.instruction.specs.declared.Instruction.{Instruction}
 use Rattle.instruction.specs.Standing.{cutOf, withOperands, leading, valueOf, byRow}
 use Rattle.instruction.specs.Decodes.{wholeDecoded, decodingOf, Reads}
 use Rattle.instruction.proofs.Rows.{agrees, row-agrees}
-use Rattle.instruction.proofs.Steps.{stands-in, stands-out}
+use Rattle.instruction.proofs.Steps.{byte-there, byte-missing, stands-in, stands-out}
 
 -- ---- there are as many operands as forms
 
@@ -73,21 +73,31 @@ row-first b uncarried s at = refl
 
 -- ---- the answer
 
-pub reads-out : (s : List ℕ) (at : ℕ) (r : Instruction) → r ≡ cutOf 0 0 at → length s ≤ at → Reads s at r
-reads-out s at r q h =
-    record {
-      stands = q ∙ stands-out s at h;
-      byte = ap (λ (i : Instruction). i .first) q ∙ sym (List·getD-eq-default s 0 h);
-      decodes = λ l k. let z : ⊥ = omega arith in absurd z;
-    }
+module _ (s : List ℕ) (at : ℕ) (r : Instruction) where
+  reads-out : r ≡ cutOf 0 0 at → length s ≤ at → Reads s at r
+  reads-out q h =
+      record {
+        stands = q ∙ stands-out s at h;
+        byte = ap (λ (i : Instruction). i .first) q ∙ sym (List·getD-eq-default s 0 h);
+        decodes = λ l k. let z : ⊥ = omega arith in absurd z;
+      }
 
-pub reads-in : (s : List ℕ) (at : ℕ) (r : Instruction) → byteAt s at < 256 → at < length s → r ≡ byRow (byteAt s at) (opcode (byteAt s at)) s (at + 1) → Reads s at r
-unfolding decode inside
-reads-in s at r k h q =
-    record {
-      stands = q ∙ stands-in s at h;
-      byte = ap (λ (i : Instruction). i .first) q ∙ row-first (byteAt s at) (opcode (byteAt s at)) s (at + 1);
-      decodes = λ l _.
-          rw (q, le-leb 22 at l, lt-ltb at (length s) h)
-          (row-decoded (byteAt s at) (opcode (byteAt s at)) _ s (at + 1) refl (row-agrees (byteAt s at) _ k refl));
-    }
+  reads-in : byteAt s at < 256 → at < length s → r ≡ byRow (byteAt s at) (opcode (byteAt s at)) s (at + 1) → Reads s at r
+  unfolding decode inside
+  reads-in k h q =
+      record {
+        stands = q ∙ stands-in s at h;
+        byte = ap (λ (i : Instruction). i .first) q ∙ row-first (byteAt s at) (opcode (byteAt s at)) s (at + 1);
+        decodes = λ l _.
+            rw (q, le-leb 22 at l, lt-ltb at (length s) h)
+            (row-decoded (byteAt s at) (opcode (byteAt s at)) _ s (at + 1) refl (row-agrees (byteAt s at) _ k refl));
+      }
+
+  -- by what the first byte was fetched as
+  pub reads-got : (v next : ℕ) → byteAt s at < 256 → got v next ≡ fetched (formAt 1) s at → r ≡ byRow v (opcode v) s next → Reads s at r
+  reads-got v next k g q =
+      let b = byte-there s at v next g in
+      reads-in k (b .0) (q ∙ ap (λ (n : ℕ). byRow n (opcode n) s next) (b .1) ∙ ap (byRow (byteAt s at) (opcode (byteAt s at)) s) (b .2))
+
+  pub reads-cut : (place : ℕ) → out place ≡ fetched (formAt 1) s at → r ≡ cutOf 0 0 place → Reads s at r
+  reads-cut place g q = let b = byte-missing s at place g in reads-out (q ∙ ap (cutOf 0 0) (b .1)) (b .0)

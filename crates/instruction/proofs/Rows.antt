@@ -2,16 +2,16 @@
 -- Above: Steps and Decoding; below: the packed rows of `code`. Assumes nothing.
 use Prim.Native.Nat.{ℕ, _/_, _%_, _<_}
 use mathlib.Core.Path.{_≡_, refl, ap, _∙_}
-use mathlib.Core.Bool.{Bool, true}
+use mathlib.Core.Bool.{Bool, true, false}
 use mathlib.Core.List.{List, [], _∷_}
 use lib.Dec.{ltb, leb, eqb}
 use lib.ListN.{length, drop}
-use borrow.Author.Tests.{ne-eqb}
 use Rattle.basis.specs.Bools.{every}
-use Rattle.operand.specs.Operand.{Form, UB, SB, DB, B, W, got}
+use Rattle.operand.specs.Operand.{Form, UB, SB, DB, B, W, digit}
+use Rattle.operand.proofs.Operands.{numbered}
 use Rattle.pmachine.specs.Opcode.{Row, carried, uncarried, opcode, rowIn, appendixB}
 use Rattle.pmachine.proofs.Rows.{numbers, at-number}
-use Rattle.code.specs.Packed.{digit, packedForms, packed}
+use Rattle.code.specs.Packed.{packedForms, packed}
 use Rattle.instruction.specs.Standing.{leading}
 use Rattle.instruction.specs.Parts.{byDigit}
 
@@ -42,13 +42,12 @@ row-agrees b n h q = ap (agrees (opcode b)) q ∙ at-number right 256 tested b h
 pub by-digit : (forms : List Form) (s : List ℕ) (at : ℕ) → byDigit (digitOf forms) s at ≡ leading forms s at
 unfolding byDigit leading
 by-digit [] s at = refl
-by-digit (UB ∷ fs) s at = refl
-by-digit (SB ∷ fs) s at = refl
-by-digit (DB ∷ fs) s at = refl
-by-digit (B ∷ fs) s at = refl
-by-digit (W ∷ fs) s at = refl
-
--- a digit that is none of them
-pub no-digit : (d : ℕ) (s : List ℕ) (at : ℕ) → (d ≡ 1 → ⊥) → (d ≡ 2 → ⊥) → (d ≡ 3 → ⊥) → (d ≡ 4 → ⊥) → (d ≡ 5 → ⊥) → got 0 at ≡ byDigit d s at
-unfolding byDigit
-no-digit d s at a b e f g = rw (ne-eqb d 1 a, ne-eqb d 2 b, ne-eqb d 3 e, ne-eqb d 4 f, ne-eqb d 5 g)
+by-digit (f ∷ fs) s at = rw (some-digit f, numbered .form f)
+  where
+    -- no form's number is that of no operand
+    some-digit : (f : Form) → eqb (digit f) 0 ≡ false
+    some-digit UB = refl
+    some-digit SB = refl
+    some-digit DB = refl
+    some-digit B = refl
+    some-digit W = refl

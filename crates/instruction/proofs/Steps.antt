@@ -1,15 +1,16 @@
 -- The steps of `read`: from what the operands were fetched as to what stands there.
--- Above: the proofs of `read`, `first_operand` and `second_operand`; below: Rows and the definitions. Assumes nothing.
+-- Above: the proofs of `read`, `by_row`, `first_operand` and `second_operand`; below: Rows and the definitions. Assumes nothing.
 use Prim.Native.Nat.{ℕ, _+_, _/_, _%_, _≤_, _<_}
 use native.Mathlib.Omega.{arith}
 use mathlib.Core.Path.{_≡_, refl, ap, _∙_}
-use mathlib.Core.Bool.{true}
+use mathlib.Core.Bool.{Bool, true, false}
 use mathlib.Core.List.{List, [], _∷_}
+use lib.Dec.{ltb}
 use lib.ListN.{length, drop}
-use borrow.Author.Tests.{ltb-true, leb-true, eqb-true, lt-ltb, le-ltb}
+use borrow.Author.Tests.{ltb-true, ltb-false, leb-true, eqb-true, lt-ltb, le-ltb}
 use Rattle.basis.proofs.Bools.{every-holds}
 use Rattle.operand.specs.Bytes.{byteAt}
-use Rattle.operand.specs.Operand.{Form, Fetched, got, out, fetched}
+use Rattle.operand.specs.Operand.{Form, Fetched, got, out, ifThere, fetched, formAt}
 use Rattle.pmachine.specs.Meaning.{Meaning}
 use Rattle.pmachine.specs.Opcode.{Row, carried, uncarried, opcode}
 use Rattle.pmachine.specs.Decoding.{joined, andThen, operands}
@@ -86,6 +87,31 @@ pub bare-is : (row : Row) (n first : ℕ) (s : List ℕ) (at : ℕ) → agrees r
 unfolding agrees byRow
 bare-is (carried forms taken given does) n first s at e h = let a = every-holds _ e in let z : ⊥ = omega (arith, ltb-true n 2147483648 (a .0)) in absurd z
 bare-is uncarried n first s at e h = refl
+
+-- read as UB it is there, and the operands begin after it
+pub byte-there : (s : List ℕ) (at v next : ℕ) → got v next ≡ fetched (formAt 1) s at → (at < length s) × (v ≡ byteAt s at) × (next ≡ at + 1)
+unfolding fetched formAt ifThere
+byte-there s at v next q = go (ltb at (length s)) refl
+  where
+    go : (t : Bool) → ltb at (length s) ≡ t → (at < length s) × (v ≡ byteAt s at) × (next ≡ at + 1)
+    go true e = let h : got v next ≡ got (byteAt s at) (at + 1) = rw e at q in (ltb-true at (length s) e, cc, cc)
+    go false e =
+        let h : got v next ≡ out at = rw e at q in
+        let z : _≡_ {A = ℕ} 0 1 = cc in
+        let f : ⊥ = omega arith in
+        absurd f
+
+pub byte-missing : (s : List ℕ) (at place : ℕ) → out place ≡ fetched (formAt 1) s at → (length s ≤ at) × (place ≡ at)
+unfolding fetched formAt ifThere
+byte-missing s at place q = go (ltb at (length s)) refl
+  where
+    go : (t : Bool) → ltb at (length s) ≡ t → (length s ≤ at) × (place ≡ at)
+    go true e =
+        let h : out place ≡ got (byteAt s at) (at + 1) = rw e at q in
+        let z : _≡_ {A = ℕ} 0 1 = cc in
+        let f : ⊥ = omega arith in
+        absurd f
+    go false e = let h : out place ≡ out at = rw e at q in (ltb-false at (length s) e, cc)
 
 pub stands-in : (s : List ℕ) (at : ℕ) → at < length s → byRow (byteAt s at) (opcode (byteAt s at)) s (at + 1) ≡ standing s at
 unfolding standing

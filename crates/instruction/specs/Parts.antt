@@ -5,20 +5,15 @@ use mathlib.Core.List.{List}
 use mathlib.Core.Bool.{cond}
 use lib.ListN.{drop}
 use lib.Dec.{eqb}
-use Rattle.operand.specs.Operand.{UB, SB, DB, B, W, Fetched, got, fetched}
+use Rattle.operand.specs.Operand.{Fetched, got, fetched, formAt}
 use Rattle.pmachine.specs.Opcode.{Row, carried, uncarried}
 use Rattle.pmachine.specs.Decoding.{joined, operands}
 use Rattle.instruction.specs.declared.Instruction.{Instruction}
 use Rattle.instruction.specs.Standing.{withOperands, bareOf}
 
--- 1 UB, 2 SB, 3 DB, 4 B, 5 W; and for none 0 at no bytes
+-- the operand of a form by the form's number; and for 0, which is no form's, the value 0 at no bytes
 unfoldable pub byDigit : ℕ → List ℕ → ℕ → Fetched
-byDigit d s at =
-    cond (eqb d 1) (fetched UB s at)
-    (cond (eqb d 2) (fetched SB s at)
-    (cond (eqb d 3) (fetched DB s at)
-    (cond (eqb d 4) (fetched B s at)
-    (cond (eqb d 5) (fetched W s at) (got 0 at)))))
+byDigit d s at = cond (eqb d 0) (got 0 at) (fetched (formAt d) s at)
 
 -- the first operand is x, and the others stand from `at` on
 unfoldable pub afterFirst : ℕ → ℕ → Row → List ℕ → ℕ → Instruction

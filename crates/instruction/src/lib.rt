@@ -1,5 +1,5 @@
 // What stands at a byte of the code: the first byte, whether it is carried, and its operands as far as they are there.
-// Above: listings, and what is told of a fault. Below: the table of first bytes in `code`, the operands of `operand`.
+// Above: listings, and what is told of a fault. Below: the table of first bytes in `code`, and the reader, which fetches operands.
 use code::TABLE;
 use operand::Operand;
 ghost use mathlib.Core.Path.{_≡_};
@@ -13,6 +13,9 @@ ghost use Rattle.instruction.specs.Parts.{byDigit, afterFirst};
 
 // The mark of a byte that is not carried.
 const MARK: u32 = 2147483648;
+
+// The number of the form UB.
+const UB: u8 = 1;
 
 // An instruction as it stands in the code. x and y are its operands in order, 0 where there is none. `next` is the byte after it: after
 // its first byte where it is not carried, and the first byte that is missing where the segment ends within it.
@@ -34,40 +37,44 @@ fn row_of(first: u8) -> u32
     t[first as usize]
 }
 
-// An operand by its form's digit: 1 UB, 2 SB, 3 DB, 4 B, 5 W; and for none 0 at no bytes.
-fn by_form(seg: &[u8], digit: u32, at: usize) -> Operand
+// An operand by its form's digit; and for none, digit 0, the value 0 at no bytes.
+fn by_form(seg: &[u8], digit: u8, at: usize) -> Operand
     ensures { λ r. ⌜ fetchedOf r ≡ byDigit digit (now (seg .entry)) at ⌝ }
 {
-    match digit {
-        1 | 3 => operand::unsigned(seg, at),
-        2 => operand::signed(seg, at),
-        4 => operand::big(seg, at),
-        5 => operand::wide(seg, at),
-        _ => Operand::Got { value: 0, next: at },
+    if digit == 0 {
+        return Operand::Got { value: 0, next: at };
     }
+    reader::read_at(seg, at, digit)
 }
 
 // The instruction at byte `at`, which is a byte of the segment; past its end stands a byte 0 that is not whole.
-// It reads as the machine decodes there.
+// It reads as the machine decodes there. The first byte is read as an operand UB is.
 pub fn read(seg: &[u8], at: usize) -> Instruction
     ensures { λ r. ⌜ Reads (now (seg .entry)) at r ⌝ }
 {
-    if seg.len() <= at {
-        return cut(0, 0, at);
+    let first = reader::read_at(seg, at, UB);
+    match first {
+        Operand::Got { value, next } => by_row(seg, value as u8, next),
+        Operand::Out { place } => cut(0, 0, place),
     }
-    let first = seg[at];
+}
+
+// The instruction of this first byte, with its operands from `at` on.
+fn by_row(seg: &[u8], first: u8, at: usize) -> Instruction
+    ensures { λ r. ⌜ r ≡ byRow first (opcode first) (now (seg .entry)) at ⌝ }
+{
     let row = row_of(first);
     if MARK <= row {
-        return bare(first, at + 1);
+        return bare(first, at);
     }
-    first_operand(seg, first, row, at + 1)
+    first_operand(seg, first, row, at)
 }
 
 fn first_operand(seg: &[u8], first: u8, row: u32, at: usize) -> Instruction
     requires { ⌜ (row ≡ packed (opcode first)) × (row < 2147483648) ⌝ }
     ensures { λ r. ⌜ r ≡ byRow first (opcode first) (now (seg .entry)) at ⌝ }
 {
-    let x = by_form(seg, (row / 65536) % 8, at);
+    let x = by_form(seg, ((row / 65536) % 8) as u8, at);
     match x {
         Operand::Got { value, next } => second_operand(seg, first, row, value, next),
         Operand::Out { place } => cut(first, 0, place),
@@ -78,7 +85,7 @@ fn second_operand(seg: &[u8], first: u8, row: u32, x: u16, at: usize) -> Instruc
     requires { ⌜ (row ≡ packed (opcode first)) × (row < 2147483648) ⌝ }
     ensures { λ r. ⌜ r ≡ afterFirst first x (opcode first) (now (seg .entry)) at ⌝ }
 {
-    let y = by_form(seg, (row / 524288) % 8, at);
+    let y = by_form(seg, ((row / 524288) % 8) as u8, at);
     match y {
         Operand::Got { value, next } => Instruction {
             first,

@@ -4,7 +4,7 @@ use mathlib.Core.Path.{refl}
 use Rattle.basis.specs.Bools.{inside}
 use Rattle.basis.specs.Integer.{modulo, integerOf, wordOf, unary, binary, addOf, mulOf, negOf, quotOf, remOf}
 use Rattle.operand.specs.Bytes.{wordBy}
-use Rattle.operand.specs.Operand.{given, signed, fetched}
+use Rattle.operand.specs.Operand.{ifThere, signed, fetched}
 use Rattle.segment.specs.Head.{least, word, dict, count, entry, datasize, start, pool}
 use Rattle.segment.specs.Small.{small, smallTurned}
 use Rattle.turning.specs.Turn.{frame, framed, position, other, listOf, swapByte, swapAt, turned}
@@ -16,6 +16,6 @@ use Rattle.pmachine.specs.Run.{isReady, written, settled, step, run, stepsDone}
 use Rattle.marked.specs.Table.{All, after, cases}
 
 pub cases-hold : All cases
-unfolding cases after inside modulo integerOf wordOf unary binary addOf mulOf negOf quotOf remOf wordBy given signed fetched least word dict count entry datasize start pool small smallTurned frame framed position other listOf swapByte swapAt turned opcode rowIn appendixB joined andThen operands lawful allLawful decodedWith rowDecoded decode follow reached wordAt target markAt resumes groundFor firstFault asks effect outcome judgedBy judge starting opened isReady written settled step run stepsDone
+unfolding cases after inside modulo integerOf wordOf unary binary addOf mulOf negOf quotOf remOf wordBy ifThere signed fetched least word dict count entry datasize start pool small smallTurned frame framed position other listOf swapByte swapAt turned opcode rowIn appendixB joined andThen operands lawful allLawful decodedWith rowDecoded decode follow reached wordAt target markAt resumes groundFor firstFault asks effect outcome judgedBy judge starting opened isReady written settled step run stepsDone
 cases-hold =
     (refl, (refl, (refl, (refl, (refl, (refl, (refl, (refl, (refl, (refl, (refl, (refl, ((refl, refl), ((refl, refl), (refl, tt)))))))))))))))

@@ -2,7 +2,7 @@
 -- Below: the definitions. Assumes nothing.
 use mathlib.Core.Path.{_≡_, refl}
 use mathlib.Core.List.{[], _∷_}
-use Rattle.operand.specs.Operand.{UB, SB, DB, W, got, out, given, signed, fetched}
+use Rattle.operand.specs.Operand.{UB, SB, DB, W, got, out, ifThere, signed, fetched}
 
 pub record Others : Type 0 where
   pub cut : fetched W (0x34 ∷ []) 0 ≡ out 1
@@ -11,5 +11,5 @@ pub record Others : Type 0 where
   pub db : fetched DB (0x80 ∷ []) 0 ≡ got 128 1
 
 pub others : Others
-unfolding fetched given signed
+unfolding fetched ifThere signed
 others = record { cut = refl; ub = refl; sb = refl; db = refl }

@@ -1,8 +1,8 @@
--- What holds of every operand form: where it reads, and where the bytes run out.
+-- What holds of every operand form: where it reads, where the bytes run out, and its number.
 -- Below: the definitions. Above: the machine's counter, and faults of a fetch. Assumes nothing.
-use Prim.Native.Nat.{ℕ, suc, _+_, _-_, _%_, _≤_, _<_}
+use Prim.Native.Nat.{ℕ, zero, suc, _+_, _-_, _%_, _≤_, _<_}
 use native.Mathlib.Omega.{arith}
-use mathlib.Core.Path.{_≡_, refl}
+use mathlib.Core.Path.{_≡_, refl, sym}
 use mathlib.Core.List.{List}
 use mathlib.Core.Bool.{Bool, true, false, cond}
 use borrow.Author.Tests.{ltb-true, ltb-false, lt-ltb}
@@ -11,13 +11,14 @@ use lib.Dec.{ltb}
 use lib.IntN.{pos, subℕ}
 use Rattle.basis.specs.Integer.{modulo, integerOf, wordOf}
 use Rattle.operand.specs.Bytes.{byteAt, join}
-use Rattle.operand.specs.Operand.{Form, UB, SB, DB, B, W, Fetched, got, out, given, signed, fetched}
-use Rattle.operand.specs.Reading.{Lies, Reads}
+use Rattle.operand.specs.declared.Operand.the-variants.{Got, Out}
+use Rattle.operand.specs.Operand.{Form, UB, SB, DB, B, W, Fetched, got, out, ifThere, signed, fetched, digit, formAt}
+use Rattle.operand.specs.Reading.{Lies, Reads, RunsOut, Numbered}
 
 module _ (s : List ℕ) (at : ℕ) where
-  -- what `given` reads, if what follows the test reads so
-  first : (o : Fetched) → (at < length s → Lies s at o) → Lies s at (given s at o)
-  unfolding given
+  -- what `ifThere` reads, if what follows the test reads so
+  first : (o : Fetched) → (at < length s → Lies s at o) → Lies s at (ifThere s at o)
+  unfolding ifThere
   first o h = go (ltb at (length s)) refl
     where
       go : (b : Bool) → ltb at (length s) ≡ b → Lies s at (cond b o (out at))
@@ -27,8 +28,8 @@ module _ (s : List ℕ) (at : ℕ) where
           (omega arith, omega arith, r, λ (i : at ≤ length s). omega arith)
 
   -- the second of two bytes, behind a test of its own
-  second : (v : ℕ) → at < length s → Lies s at (given s (at + 1) (got v (at + 2)))
-  unfolding given
+  second : (v : ℕ) → at < length s → Lies s at (ifThere s (at + 1) (got v (at + 2)))
+  unfolding ifThere
   second v l = go (ltb (at + 1) (length s)) refl
     where
       go : (b : Bool) → ltb (at + 1) (length s) ≡ b → Lies s at (cond b (got v (at + 2)) (out (at + 1)))
@@ -40,11 +41,11 @@ module _ (s : List ℕ) (at : ℕ) where
           (omega arith, omega arith, r, λ (i : at ≤ length s). omega arith)
 
   -- one byte, or two
-  some : (b : Bool) (v u : ℕ) → at < length s → Lies s at (cond b (got v (at + 1)) (given s (at + 1) (got u (at + 2))))
+  some : (b : Bool) (v u : ℕ) → at < length s → Lies s at (cond b (got v (at + 1)) (ifThere s (at + 1) (got u (at + 2))))
   some true v u l = (omega arith, omega arith, omega arith)
   some false v u l = second u l
 
-  one : (v : ℕ) → Lies s at (given s at (got v (at + 1)))
+  one : (v : ℕ) → Lies s at (ifThere s at (got v (at + 1)))
   one v = first (got v (at + 1)) (λ (l : at < length s). (omega arith, omega arith, omega arith))
 
 pub reads : Reads
@@ -62,6 +63,32 @@ module _ (f : Form) (s : List ℕ) (at : ℕ) where
 
   pub out-lies : (p : ℕ) → fetched f s at ≡ out p → at ≤ length s → p ≡ length s
   out-lies p h l = (rw h at (reads f s at)) .3 l
+
+pub runs-out : RunsOut
+runs-out f s at (Got value next) e h l = let z : ⊥ = omega (arith, h) in absurd z
+runs-out f s at (Out place) e h l = out-lies f s at place (sym e) l
+
+-- ---- the numbers of the forms
+
+pub numbered : Numbered
+unfolding formAt
+numbered = record { form = form; number = number }
+  where
+    form : (f : Form) → formAt (digit f) ≡ f
+    form UB = refl
+    form SB = refl
+    form DB = refl
+    form B = refl
+    form W = refl
+
+    number : (n : ℕ) → 1 ≤ n → n ≤ 5 → digit (formAt n) ≡ n
+    number zero l h = let z : ⊥ = omega (arith, l) in absurd z
+    number (suc zero) l h = refl
+    number (suc (suc zero)) l h = refl
+    number (suc (suc (suc zero))) l h = refl
+    number (suc (suc (suc (suc zero)))) l h = refl
+    number (suc (suc (suc (suc (suc zero))))) l h = refl
+    number (suc (suc (suc (suc (suc (suc n)))))) l h = let z : ⊥ = omega (arith, h) in absurd z
 
 -- ---- a signed byte
 

@@ -10,7 +10,7 @@ use Rattle.pmachine.specs.Decoding.{joined, andThen, operands, lawful, a
 use Rattle.pmachine.specs.Opcode.{opcode, rowIn, appendixB}
 use Rattle.basis.specs.Bools.{inside}
 use Rattle.operand.specs.Bytes.{wordBy}
-use Rattle.operand.specs.Operand.{given, signed, fetched}
+use Rattle.operand.specs.Operand.{ifThere, signed, fetched}
 use Rattle.segment.specs.Small.{small}
 use Rattle.segment.specs.Head.{least, word, dict, count, entry, datasize, start, pool}
 
@@ -26,5 +26,5 @@ after =
     }
 
 runs : (run small [] 9 begin ≡ after) × (stepsDone small [] 9 begin ≡ 3)
-unfolding small begin after isReady written settled step run stepsDone follow reached wordAt target markAt resumes groundFor firstFault asks effect outcome judgedBy judge joined andThen operands lawful allLawful decodedWith rowDecoded decode opcode rowIn appendixB inside wordBy given signed fetched least word dict count entry datasize start pool
+unfolding small begin after isReady written settled step run stepsDone follow reached wordAt target markAt resumes groundFor firstFault asks effect outcome judgedBy judge joined andThen operands lawful allLawful decodedWith rowDecoded decode opcode rowIn appendixB inside wordBy ifThere signed fetched least word dict count entry datasize start pool
 runs = (refl, refl)

@@ -1,5 +1,6 @@
 // The reader: a bounded view of one segment with a reading place, so that no caller adds offsets by hand.
-// Below: the operands. Each function over the struct takes it apart and calls one on a slice and numbers.
+// Below: the operands. Above: `instruction`, and so listings and what is told of a fault.
+// Each function over the struct takes it apart and calls one on a slice and numbers.
 use operand::Operand;
 ghost use mathlib.Core.Path.{_≡_};
 ghost use Rattle.operand.specs.Operand.{fetched, fetchedOf, formAt};
@@ -21,35 +22,35 @@ pub fn moved<'a>(r: Reader<'a>, at: usize) -> Reader<'a>
     Reader { src: r.src, at }
 }
 
-// An operand of the form with the number code, as the opcode table packs it.
-fn fetch_coded(src: &[u8], at: usize, code: u8) -> Operand
-    ensures { λ r. ⌜ fetchedOf r ≡ fetched (formAt code) (now (src .entry)) at ⌝ }
+// An operand by its form's number in the table of first bytes: 1 UB, 2 SB, 3 DB, 4 B, 5 W.
+fn fetch_coded(src: &[u8], at: usize, digit: u8) -> Operand
+    ensures { λ r. ⌜ fetchedOf r ≡ fetched (formAt digit) (now (src .entry)) at ⌝ }
 {
-    if code == 0 {
+    if digit == 1 {
         return operand::unsigned(src, at);
     }
-    if code == 1 {
+    if digit == 2 {
         return operand::signed(src, at);
     }
-    if code == 2 {
+    if digit == 3 {
         return operand::unsigned(src, at);
     }
-    if code == 3 {
+    if digit == 4 {
         return operand::big(src, at);
     }
     operand::wide(src, at)
 }
 
 // The same at the reader's place.
-pub fn next<'a>(r: Reader<'a>, code: u8) -> Operand
-    ensures { λ s. ⌜ fetchedOf s ≡ fetched (formAt code) (now (r .entry .src)) (r .entry .at) ⌝ }
+pub fn next<'a>(r: Reader<'a>, digit: u8) -> Operand
+    ensures { λ s. ⌜ fetchedOf s ≡ fetched (formAt digit) (now (r .entry .src)) (r .entry .at) ⌝ }
 {
-    fetch_coded(r.src, r.at, code)
+    fetch_coded(r.src, r.at, digit)
 }
 
 // The same with plain parameters, by a reader that is made and moved: so a caller needs none of its own.
-pub fn read_at(seg: &[u8], at: usize, code: u8) -> Operand
-    ensures { λ r. ⌜ fetchedOf r ≡ fetched (formAt code) (now (seg .entry)) at ⌝ }
+pub fn read_at(seg: &[u8], at: usize, digit: u8) -> Operand
+    ensures { λ r. ⌜ fetchedOf r ≡ fetched (formAt digit) (now (seg .entry)) at ⌝ }
 {
-    next(moved(new(seg), at), code)
+    next(moved(new(seg), at), digit)
 }

@@ -76,21 +76,21 @@ fn is_least(seg: &[u8]) -> bool
     byte_at(seg, Segment::SEX_BYTE) == Segment::ONE
 }
 
-// The header's numbers.
+// The header's numbers, set one after another in a fresh record.
 pub fn head(seg: &[u8]) -> Segment
     ensures { λ r. ⌜ r ≡ headOf (now (seg .entry)) ⌝ }
 {
+    let mut h = Segment::fresh();
     let least = is_least(seg);
     let dict = word_at(seg, least, Segment::DICT);
-    Segment {
-        words: seg.len() / 2,
-        least,
-        dict,
-        reloc: word_at(seg, least, Segment::RELOC),
-        pool: word_at(seg, least, Segment::POOL),
-        real: word_at(seg, least, Segment::REAL),
-        count: word_at(seg, least, dict as u32),
-    }
+    h.words = seg.len() / 2;
+    h.least = least;
+    h.dict = dict;
+    h.reloc = word_at(seg, least, Segment::RELOC);
+    h.pool = word_at(seg, least, Segment::POOL);
+    h.real = word_at(seg, least, Segment::REAL);
+    h.count = word_at(seg, least, dict as u32);
+    h
 }
 
 // One less, and 0 of 0.

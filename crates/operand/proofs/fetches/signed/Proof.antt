@@ -2,7 +2,7 @@
 use borrow.Author.Tests.{lt-ltb, le-ltb}
 use borrow.Author.Needs.{needs}
 use native.Mathlib.Omega.{arith}
-use Rattle.operand.specs.Operand.{given, signed, fetched}
+use Rattle.operand.specs.Operand.{ifThere, signed, fetched}
 use Rattle.operand.proofs.fetches.signed.Statement.{statement}
 use Rattle.operand.proofs.fetches.signed.Tie as tie
 
@@ -10,18 +10,18 @@ cast-b : tie.Need-cast-b
 cast-b c = omega (arith, c .shared-slice-known .given (c .before .before .args .at))
 
 returns : tie.Need-returns
-unfolding fetched signed given
+unfolding fetched signed ifThere
 returns c = simp (lt-ltb _ _ (c .before .before .if1 .taken), lt-ltb _ _ (c .if2 .taken))
 
 add-t10 : tie.Need-add-t10
 add-t10 c = omega (arith, c .before .shared-slice-known .given (c .before .before .before .args .at))
 
 returns-2 : tie.Need-returns-2
-unfolding fetched signed given
+unfolding fetched signed ifThere
 returns-2 c = simp (lt-ltb _ _ (c .before .before .if1 .taken), le-ltb _ _ (c .if2 .left))
 
 returns-3 : tie.Need-returns-3
-unfolding fetched given
+unfolding fetched ifThere
 returns-3 c = simp (le-ltb _ _ (c .if1 .left))
 
 pub signed-spec : {M : Type 1} → statement M
