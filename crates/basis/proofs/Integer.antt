@@ -13,6 +13,7 @@ use lib.IntN.{ℤ, pos, negsuc, negℤ, natAbs, subℕ, _+ℤ_, _-ℤ_, _*ℤ_, 
 use lib.Signed.{mag, quotZ, remZ, leZ}
 use borrow.Author.Tests.{ltb-true, ltb-false, lt-ltb, le-ltb, lt-leb, le-leb}
 use Rattle.basis.specs.Integer.{modulo, integerOf, wordOf, unary, binary, ordered, truth, flipped, addOf, subOf, mulOf, quotOf, remOf, negOf, magOf, incOf, decOf, leqOf}
+use Rattle.basis.specs.Division.{Division, RemainderSmaller, RemainderSign}
 use Rattle.basis.proofs.Bools.{cond-holds, leb-iff}
 
 -- ---- any modulus
@@ -217,7 +218,7 @@ times-neg : (q b : ℕ) → negℤ (pos q) *ℤ negsuc b ≡ pos (q * suc b)
 times-neg zero b = rw (zero-mul (suc b))
 times-neg (suc q) b = refl
 
-pub division : (z d : ℤ) → quotZ z d *ℤ d +ℤ remZ z d ≡ z
+pub division : Division
 division (pos a) (pos b) = ap pos (div-add-mod' a b)
 division (pos a) (negsuc b) = rw (times-neg (a / suc b) b) (ap pos (div-add-mod' a (suc b)))
 division (negsuc a) (pos b) =
@@ -229,9 +230,12 @@ abs-neg : (k : ℕ) → natAbs (negℤ (pos k)) ≡ k
 abs-neg zero = refl
 abs-neg (suc k) = refl
 
-pub remainder-smaller : (z d : ℤ) → 0 < natAbs d → natAbs (remZ z d) < natAbs d
+pub remainder-smaller : RemainderSmaller
 remainder-smaller (pos a) d h = mod-lt a h
 remainder-smaller (negsuc a) d h = rw (abs-neg (suc a % natAbs d)) (mod-lt (suc a) h)
+
+pub remainder-sign : RemainderSign
+remainder-sign a d = (refl, ap (λ (k : ℕ). negℤ (pos k)) (sym (abs-neg (suc a % natAbs d))))
 
 -- ---- division by magnitudes
 

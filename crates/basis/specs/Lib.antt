@@ -3,4 +3,5 @@ pub mod Bools
 pub mod Checks
 pub mod Part
 pub mod Integer
+pub mod Division
 pub mod Cases

@@ -2,7 +2,8 @@
 -- Above: nothing; below: the definitions on the way, which are all opened here.
 use mathlib.Core.Path.{refl}
 use Rattle.basis.specs.Bools.{inside}
-use Rattle.basis.specs.Integer.{modulo, integerOf, wordOf, unary, binary, addOf, mulOf, negOf, quotOf, remOf}
+use Rattle.basis.specs.Integer.{modulo, integerOf, wordOf, unary, binary, addOf, mulOf, quotOf, remOf}
+use Rattle.basis.specs.Cases.{minus}
 use Rattle.operand.specs.Bytes.{wordBy}
 use Rattle.operand.specs.Operand.{ifThere, signed, fetched}
 use Rattle.segment.specs.Head.{least, word, dict, count, entry, datasize, start, pool}
@@ -13,9 +14,9 @@ use Rattle.pmachine.specs.Decoding.{joined, andThen, operands, lawful, allLawfu
 use Rattle.pmachine.specs.Step.{follow, reached, wordAt, target, markAt, resumes, groundFor, firstFault, asks, effect, outcome, judgedBy, judge}
 use Rattle.pmachine.specs.Sound.{starting, opened}
 use Rattle.pmachine.specs.Run.{isReady, written, settled, step, run, stepsDone}
-use Rattle.marked.specs.Table.{All, after, cases}
+use Rattle.marked.specs.Table.{All, after, cutShort, afterCut, cases}
 
 pub cases-hold : All cases
-unfolding cases after inside modulo integerOf wordOf unary binary addOf mulOf negOf quotOf remOf wordBy ifThere signed fetched least word dict count entry datasize start pool small smallTurned frame framed position other listOf swapByte swapAt turned opcode rowIn appendixB joined andThen operands lawful allLawful decodedWith rowDecoded decode follow reached wordAt target markAt resumes groundFor firstFault asks effect outcome judgedBy judge starting opened isReady written settled step run stepsDone
+unfolding cases after cutShort afterCut minus inside modulo integerOf wordOf unary binary addOf mulOf quotOf remOf wordBy ifThere signed fetched least word dict count entry datasize start pool small smallTurned frame framed position other listOf swapByte swapAt turned opcode rowIn appendixB joined andThen operands lawful allLawful decodedWith rowDecoded decode follow reached wordAt target markAt resumes groundFor firstFault asks effect outcome judgedBy judge starting opened isReady written settled step run stepsDone
 cases-hold =
-    (refl, (refl, (refl, (refl, (refl, (refl, (refl, (refl, (refl, (refl, (refl, (refl, ((refl, refl), ((refl, refl), (refl, tt)))))))))))))))
+    (refl, (refl, (refl, (refl, (refl, ((refl, refl), (refl, (refl, (refl, (refl, (refl, (refl, (refl, ((refl, refl), ((refl, refl), (refl, tt))))))))))))))))

@@ -10,6 +10,7 @@ use lib.Seq.{getD-set-same, getD-set-other}
 use Rattle.pmachine.specs.State.{Registers, ready, finished, faulted, State}
 use Rattle.pmachine.specs.Step.{Outcome, fault, finish, goes, judge}
 use Rattle.pmachine.specs.Run.{isReady, written, settled, step}
+use Rattle.pmachine.specs.Kept.{StepKept}
 use Rattle.pmachine.proofs.Runs.{step-ready}
 
 -- ---- the words from a place upward
@@ -57,13 +58,15 @@ module _ (s shared : List ℕ) (t : State) (e : isReady (t .kind) ≡ true) wher
   unfolding settled
   step-goes h = step-ready s shared t e ∙ ap (settled (t .words) (t .registers)) h
 
-  -- a step after which the session is not ready leaves words and registers
-  pub step-kept : isReady (step s shared t .kind) ≡ false → (step s shared t .words ≡ t .words) × (step s shared t .registers ≡ t .registers)
-  step-kept h = rw (step-ready s shared t e) (settled-kept (t .words) (t .registers) (judge s shared (t .words) (t .registers)) (rw (step-ready s shared t e) at h))
-
   module _ (q : Registers) (at : ℕ) (ws : List ℕ) (h : judge s shared (t .words) (t .registers) ≡ goes q at ws) (i : ℕ) where
     pub step-frame-below : i < at → getD (step s shared t .words) i 0 ≡ getD (t .words) i 0
     step-frame-below l = rw (step-goes h) (written-below ws (t .words) at i l)
 
     pub step-frame-above : at + length ws ≤ i → getD (step s shared t .words) i 0 ≡ getD (t .words) i 0
     step-frame-above l = rw (step-goes h) (written-above ws (t .words) at i l)
+
+-- a step after which the session is not ready leaves words and registers
+pub step-kept : StepKept
+step-kept s shared t e h =
+    rw (step-ready s shared t e)
+    (settled-kept (t .words) (t .registers) (judge s shared (t .words) (t .registers)) (rw (step-ready s shared t e) at h))

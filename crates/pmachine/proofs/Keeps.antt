@@ -12,6 +12,7 @@ use Rattle.pmachine.specs.State.{Registers, ready, State}
 use Rattle.pmachine.specs.Step.{Outcome, fault, finish, goes, floor, judge}
 use Rattle.pmachine.specs.Run.{isReady, settled, step, run}
 use Rattle.pmachine.specs.Sound.{inRange, Ranged, starting, opened, Loaded}
+use Rattle.pmachine.specs.Kept.{StepKeeps, RunKeeps}
 use Rattle.pmachine.proofs.Ranges.{KindRanged, ranged, kind-ranged, in-range}
 use Rattle.pmachine.proofs.Judged.{Good, judge-good}
 use Rattle.pmachine.proofs.Runs.{written-length, run-none, run-suc}
@@ -50,14 +51,11 @@ module _ (s : List ℕ) (l : ℕ) (t : State) where
   pub whole-inRange : Whole s l t → inRange s l (t .registers) (t .kind) ≡ true
   whole-inRange h = in-range s l (t .registers) (t .kind) (h .registers) (h .kind)
 
-module _ (s shared : List ℕ) (l : ℕ) (ld : Loaded s) where
-  pub step-keeps : (t : State) → length (t .words) ≡ l → inRange s l (t .registers) (t .kind) ≡ true
-      → inRange s l (step s shared t .registers) (step s shared t .kind) ≡ true
-  step-keeps t e h = whole-inRange s l (step s shared t) (step-whole s shared l ld t (whole s l t e h))
+pub step-keeps : StepKeeps
+step-keeps s shared l ld t e h = whole-inRange s l (step s shared t) (step-whole s shared l ld t (whole s l t e h))
 
-  pub run-keeps : (k : ℕ) (t : State) → length (t .words) ≡ l → inRange s l (t .registers) (t .kind) ≡ true
-      → inRange s l (run s shared k t .registers) (run s shared k t .kind) ≡ true
-  run-keeps k t e h = whole-inRange s l (run s shared k t) (run-whole s shared l ld k t (whole s l t e h))
+pub run-keeps : RunKeeps
+run-keeps s shared l ld k t e h = whole-inRange s l (run s shared k t) (run-whole s shared l ld k t (whole s l t e h))
 
 -- ---- the starting state
 

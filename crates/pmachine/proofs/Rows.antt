@@ -13,7 +13,7 @@ use borrow.Author.Tests.{leb-true, lt-leb}
 use Rattle.basis.specs.Bools.{every}
 use Rattle.basis.proofs.Bools.{every-holds, and-fst, and-snd}
 use Rattle.pmachine.specs.Meaning.{Meaning, constant, pool-offset, load, address, store, index, indirect, unary, binary, division, duplicate, swap, nothing, subrange, jump, jump-if, call, return}
-use Rattle.pmachine.specs.Opcode.{Row, carried, uncarried, opcode, rowIn, appendixB, consecutive}
+use Rattle.pmachine.specs.Opcode.{Row, carried, uncarried, opcode, rowIn, appendixB, consecutive, LinesConsecutive}
 
 -- the words that a meaning writes on the stack
 unfoldable pub pushes : Meaning → ℕ
@@ -68,7 +68,7 @@ unfolding every opcode rowIn appendixB pushes
 bytes-roomy vs b h = at-number (λ (k : ℕ). roomy vs (opcode k)) 242 refl b h
 
 -- every number stands in one line
-pub lines-consecutive : consecutive 0 appendixB ≡ true
+pub lines-consecutive : LinesConsecutive
 unfolding consecutive appendixB
 lines-consecutive = refl
 

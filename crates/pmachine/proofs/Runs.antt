@@ -11,6 +11,7 @@ use Rattle.basis.proofs.Bools.{cond-holds}
 use Rattle.pmachine.specs.State.{Registers, State}
 use Rattle.pmachine.specs.Step.{Outcome, fault, finish, goes, judge}
 use Rattle.pmachine.specs.Run.{isReady, written, settled, step, run, stepsDone}
+use Rattle.pmachine.specs.Kept.{RunAdd, CountAdd, CountMost, CountAll, CountLess, CountRun}
 
 -- ---- the number of words
 
@@ -77,11 +78,7 @@ module _ (s shared : List ℕ) where
   run-length zero t = ap (λ (u : State). length (u .words)) (run-none t)
   run-length (suc k) t = ap (λ (u : State). length (u .words)) (run-suc k t) ∙ (run-length k (step s shared t) ∙ step-length t)
 
-  -- ---- two turns are one turn of both their steps, and their counts add up
-
-  pub run-add : (a b : ℕ) (t : State) → run s shared (a + b) t ≡ run s shared b (run s shared a t)
-  run-add zero b t = rw (zero-add, run-none t)
-  run-add (suc a) b t = rw (suc-add a b, run-suc (a + b) t, run-suc a t) (run-add a b (step s shared t))
+  -- ---- the first step of a turn and the rest, whether or not the session is ready
 
   count-add-by : (a b : ℕ) (t : State) (x : Bool) → isReady (t .kind) ≡ x
       → stepsDone s shared (a + b) (step s shared t) ≡ stepsDone s shared a (step s shared t) + stepsDone s shared b (run s shared a (step s shared t))
@@ -90,37 +87,14 @@ module _ (s shared : List ℕ) where
   count-add-by a b t false e h =
       rw (count-stopped (suc a + b) t e, count-stopped (suc a) t e, run-stopped (suc a) t e, count-stopped b t e)
 
-  pub count-add : (a b : ℕ) (t : State) → stepsDone s shared (a + b) t ≡ stepsDone s shared a t + stepsDone s shared b (run s shared a t)
-  count-add zero b t = rw (zero-add, count-none t, run-none t, zero-add)
-  count-add (suc a) b t = count-add-by a b t (isReady (t .kind)) refl (count-add a b (step s shared t))
-
-  -- ---- the count against the steps asked for
-
   count-most-by : (k : ℕ) (t : State) (x : Bool) → isReady (t .kind) ≡ x → stepsDone s shared k (step s shared t) ≤ k → stepsDone s shared (suc k) t ≤ suc k
   count-most-by k t true e h = omega (arith, count-ready k t e)
   count-most-by k t false e h = omega (arith, count-stopped (suc k) t e)
-
-  pub count-most : (k : ℕ) (t : State) → stepsDone s shared k t ≤ k
-  count-most zero t = omega (arith, count-none t)
-  count-most (suc k) t = count-most-by k t (isReady (t .kind)) refl (count-most k (step s shared t))
 
   count-all-by : (k : ℕ) (t : State) (x : Bool) → isReady (t .kind) ≡ x → isReady (run s shared (suc k) t .kind) ≡ true
       → (isReady (run s shared k (step s shared t) .kind) ≡ true → stepsDone s shared k (step s shared t) ≡ k) → stepsDone s shared (suc k) t ≡ suc k
   count-all-by k t true e h f = count-ready k t e ∙ ap suc (f (rw (run-suc k t) at h))
   count-all-by k t false e h f = absurd (false≢true (sym e ∙ (rw (run-stopped (suc k) t e) at h)))
-
-  -- a session that is still ready did all of them
-  pub count-all : (k : ℕ) (t : State) → isReady (run s shared k t .kind) ≡ true → stepsDone s shared k t ≡ k
-  count-all zero t h = count-none t
-  count-all (suc k) t h = count-all-by k t (isReady (t .kind)) refl h (count-all k (step s shared t))
-
-  -- and one that did fewer is not ready
-  pub count-less : (k : ℕ) (t : State) → stepsDone s shared k t < k → isReady (run s shared k t .kind) ≡ false
-  count-less k t l = go (isReady (run s shared k t .kind)) refl
-    where
-      go : (x : Bool) → isReady (run s shared k t .kind) ≡ x → isReady (run s shared k t .kind) ≡ false
-      go true e = absurd (omega (arith, count-all k t e))
-      go false e = e
 
   count-run-by : (k : ℕ) (t : State) (x : Bool) → isReady (t .kind) ≡ x
       → run s shared k (step s shared t) ≡ run s shared (stepsDone s shared k (step s shared t)) (step s shared t)
@@ -128,7 +102,36 @@ module _ (s shared : List ℕ) where
   count-run-by k t true e h = rw (count-ready k t e, run-suc k t, run-suc (stepsDone s shared k (step s shared t)) t) h
   count-run-by k t false e h = rw (count-stopped (suc k) t e, run-none t) (run-stopped (suc k) t e)
 
-  -- the steps done are all that a run does
-  pub count-run : (k : ℕ) (t : State) → run s shared k t ≡ run s shared (stepsDone s shared k t) t
-  count-run zero t = rw (count-none t)
-  count-run (suc k) t = count-run-by k t (isReady (t .kind)) refl (count-run k (step s shared t))
+-- ---- two turns are one turn of both their steps, and their counts add up
+
+pub run-add : RunAdd
+run-add s shared zero b t = rw (zero-add, run-none s shared t)
+run-add s shared (suc a) b t = rw (suc-add a b, run-suc s shared (a + b) t, run-suc s shared a t) (run-add s shared a b (step s shared t))
+
+pub count-add : CountAdd
+count-add s shared zero b t = rw (zero-add, count-none s shared t, run-none s shared t, zero-add)
+count-add s shared (suc a) b t = count-add-by s shared a b t (isReady (t .kind)) refl (count-add s shared a b (step s shared t))
+
+-- ---- the count against the steps asked for
+
+pub count-most : CountMost
+count-most s shared zero t = omega (arith, count-none s shared t)
+count-most s shared (suc k) t = count-most-by s shared k t (isReady (t .kind)) refl (count-most s shared k (step s shared t))
+
+-- a session that is still ready did all of them
+pub count-all : CountAll
+count-all s shared zero t h = count-none s shared t
+count-all s shared (suc k) t h = count-all-by s shared k t (isReady (t .kind)) refl h (count-all s shared k (step s shared t))
+
+-- and one that did fewer is not ready
+pub count-less : CountLess
+count-less s shared k t l = go (isReady (run s shared k t .kind)) refl
+  where
+    go : (x : Bool) → isReady (run s shared k t .kind) ≡ x → isReady (run s shared k t .kind) ≡ false
+    go true e = absurd (omega (arith, count-all s shared k t e))
+    go false e = e
+
+-- the steps done are all that a turn does
+pub count-run : CountRun
+count-run s shared zero t = rw (count-none s shared t)
+count-run s shared (suc k) t = count-run-by s shared k t (isReady (t .kind)) refl (count-run s shared k (step s shared t))

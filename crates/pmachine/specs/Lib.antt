@@ -6,3 +6,4 @@ pub mod Decoding
 pub mod Step
 pub mod Run
 pub mod Sound
+pub mod Kept

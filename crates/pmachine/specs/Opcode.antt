@@ -2,7 +2,8 @@
 -- Above: Decoding reads it at the counter, and the code's packed table is held to it; below: Meaning, and the integers of `word`.
 use Prim.Native.Nat.{ℕ, _+_, _-_}
 use mathlib.Core.List.{List, [], _∷_}
-use mathlib.Core.Bool.{Bool, _&&_, cond}
+use mathlib.Core.Path.{_≡_}
+use mathlib.Core.Bool.{Bool, true, _&&_, cond}
 use lib.Dec.{leb, eqb}
 use lib.ListN.{getD}
 use Rattle.basis.specs.Integer.{addOf, subOf, mulOf, negOf, incOf, decOf, magOf, quotOf, remOf, eqOf, neOf, leqOf, geqOf, leuOf, geuOf, andOf, orOf, notOf}
@@ -120,6 +121,10 @@ appendixB =
 unfoldable pub consecutive : ℕ → List Line → Bool
 consecutive n [] = eqb n 242
 consecutive n (line ∷ lines) = eqb (line .from) n && (leb n (line .to) && consecutive (line .to + 1) lines)
+
+-- so every byte has one row; proved by `lines-consecutive` of proofs/Rows
+abbrev pub LinesConsecutive : Type 0
+LinesConsecutive = consecutive 0 appendixB ≡ true
 
 -- the row of a byte: that of the first line that reaches it, and past the last line none is carried
 unfoldable pub rowIn : List Line → ℕ → Row
