@@ -2,7 +2,8 @@
 use native.Mathlib.Omega.{arith}
 use borrow.Author.Tests.{lt-leb, le-leb}
 use Rattle.pmachine.proofs.Links.{follow-none, follow-more}
-use Prim.Native.Nat.{ℕ, _<_}
+use Prim.Native.Nat.{ℕ, _+_, _<_}
+use lib.ListN.{length}
 use borrow.Fn.Kinds.{In}
 use borrow.Fn.PlainCycle.{Measures, is, falls, and}
 use Rattle.plan.proofs.flow.walk.Reads as walk
@@ -67,7 +68,16 @@ walk-returns-3 : (t : ℕ) → walk-lts.Need-returns-3 (
   walk-below t,
   walk.Post,
 ) (walk-at t) walk.Post
-walk-returns-3 t c = simp (follow-more (c .before .before .before .before .before .args .region .now) (c .before .before .before .before .before .args .m) (c .before .before .before .before .before .args .d) (c .before .before .before .if1 .left), ← c .before .before .word-of .ensures, lt-leb _ _ (c .if3 .taken), le-leb _ _ (c .before .if2 .left))
+walk-returns-3 t c =
+    let read = c .before .before in
+    let start = read .before .before .before in
+    let a = start .args in
+    simp (
+      follow-more (a .region .now) (a .m) (a .d) (read .before .if1 .left),
+      ← read .word-of .ensures,
+      lt-leb (read .word-of .result + 5) (length (a .region .now)) (omega arith),
+      le-leb _ _ (c .before .if2 .left),
+    )
 
 walk-sub-walk : (t : ℕ) → walk-lts.Need-sub-walk (
   word-of-reads.Asked,
@@ -91,7 +101,17 @@ walk-returns-4 : (t : ℕ) → walk-lts.Need-returns-4 (
   walk-below t,
   walk.Post,
 ) (walk-at t) walk.Post
-walk-returns-4 t c = simp (follow-more (c .before .before .before .before .before .before .args .region .now) (c .before .before .before .before .before .before .args .m) (c .before .before .before .before .before .before .args .d) (c .before .before .before .before .if1 .left), ← c .walk .ensures, ← c .before .before .before .word-of .ensures, le-leb _ _ (c .before .if3 .left), le-leb _ _ (c .before .before .if2 .left))
+walk-returns-4 t c =
+    let read = c .before .before .before in
+    let start = read .before .before .before in
+    let a = start .args in
+    simp (
+      follow-more (a .region .now) (a .m) (a .d) (read .before .if1 .left),
+      ← c .walk .ensures,
+      ← read .word-of .ensures,
+      le-leb (read .word-of .result + 5) (length (a .region .now)) (omega arith),
+      le-leb _ _ (c .before .before .if2 .left),
+    )
 
 pub +walk-spec : {M : Type 1} → statement M
 +walk-spec = close μ-walk λ t. walk-lts.spec (

@@ -1,4 +1,5 @@
 -- `plan::flow::enter` meets its contract. Assumes nothing.
+use Prim.Native.Nat.{_+_}
 use native.Mathlib.Omega.{arith}
 use borrow.Author.Tests.{lt-ltb, le-ltb}
 use Rattle.plan.specs.Mirror.{entered}
@@ -47,13 +48,25 @@ add-if3-2 c =
     omega (arith, f .size, c .before .before .before .before .before .before .before .before .before .pre .1 .floors)
 
 returns-3 : tie.Need-returns-3
-returns-3 c = simp (entered-told (c .before .before .before .before .before .before .before .before .before .before .args .seg .now) (c .before .before .before .before .before .before .before .before .before .before .args .facts) (c .before .before .before .before .before .before .before .before .before .before .pre .1) (c .before .before .before .before .before .before .before .before .before .before .args .sp) (c .before .before .before .before .before .before .before .before .before .before .args .k) (c .before .before .before .word-in .result) (c .before .before .word-in2 .result) (c .before .before .before .word-in .ensures) (c .before .before .word-in2 .ensures), lt-ltb _ _ (c .if3 .taken), le-ltb _ _ (c .before .before .before .before .before .before .if2 .left), le-ltb _ _ (c .before .before .before .before .before .before .before .before .if1 .left))
+returns-3 c =
+    let read = c .before .before in
+    let counted = read .before .before .before .before in
+    let start = counted .before .before .before .before in
+    let a = start .args in
+    let e = read .before .word-in in
+    let z = read .word-in2 in
+    simp (
+      entered-told (a .seg .now) (a .facts) (start .pre .1) (a .sp) (a .k) (e .result) (z .result) (e .ensures) (z .ensures),
+      lt-ltb (a .sp) (a .facts .floor + 5 + z .result) (omega arith),
+      le-ltb _ _ (counted .if2 .left),
+      le-ltb _ _ (counted .before .before .if1 .left),
+    )
 
 sub-t11 : tie.Need-sub-t11
-sub-t11 c = search needs
+sub-t11 c = omega (arith, c .before .before .before .before .before .before .before .before .before .before .pre .1 .floors)
 
 sub-t9 : tie.Need-sub-t9
-sub-t9 c = search needs
+sub-t9 c = omega (arith, c .before .before .before .before .before .before .before .before .before .before .pre .1 .floors)
 
 add-t12 : tie.Need-add-t12
 add-t12 c = search needs
@@ -62,7 +75,19 @@ mul-t13 : tie.Need-mul-t13
 mul-t13 c = search needs
 
 returns-4 : tie.Need-returns-4
-returns-4 c = simp (entered-told (c .before .before .before .before .before .before .before .before .before .before .args .seg .now) (c .before .before .before .before .before .before .before .before .before .before .args .facts) (c .before .before .before .before .before .before .before .before .before .before .pre .1) (c .before .before .before .before .before .before .before .before .before .before .args .sp) (c .before .before .before .before .before .before .before .before .before .before .args .k) (c .before .before .before .word-in .result) (c .before .before .word-in2 .result) (c .before .before .before .word-in .ensures) (c .before .before .word-in2 .ensures), le-ltb _ _ (c .if3 .left), le-ltb _ _ (c .before .before .before .before .before .before .if2 .left), le-ltb _ _ (c .before .before .before .before .before .before .before .before .if1 .left))
+returns-4 c =
+    let read = c .before .before in
+    let counted = read .before .before .before .before in
+    let start = counted .before .before .before .before in
+    let a = start .args in
+    let e = read .before .word-in in
+    let z = read .word-in2 in
+    simp (
+      entered-told (a .seg .now) (a .facts) (start .pre .1) (a .sp) (a .k) (e .result) (z .result) (e .ensures) (z .ensures),
+      le-ltb (a .sp) (a .facts .floor + 5 + z .result) (omega arith),
+      le-ltb _ _ (counted .if2 .left),
+      le-ltb _ _ (counted .before .before .if1 .left),
+    )
 
 pub enter-spec : {M : Type 1} → statement M
 enter-spec =

@@ -1,13 +1,13 @@
 -- `slices::front` is a prefix, or the whole of a slice that has no more bytes. Assumes nothing.
 use mathlib.Core.Path.{sym}
 use borrow.Author.Needs.{needs}
-use native.Mathlib.Nat.{le-of-lt}
+use native.Mathlib.Omega.{arith}
 use lib.Seq.{length-take-le, take-all}
 use Rattle.text.proofs.slices.front.Statement.{statement}
 use Rattle.text.proofs.slices.front.Tie as tie
 
 slice-aggregate-result : tie.Need-slice-aggregate-result
-slice-aggregate-result c = sym (length-take-le _ _ (le-of-lt (c .before .if1 .taken)))
+slice-aggregate-result c = let a = c .before .before .args in sym (length-take-le (a .n) (a .s .now) (omega arith))
 
 returns : tie.Need-returns
 returns c = search needs

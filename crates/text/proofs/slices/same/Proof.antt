@@ -29,7 +29,7 @@ abbrev μ-loop : tie.MeasureT-loop
 μ-loop a b i₀ i = length a - i
 
 returns : tie.Need-returns Inv-loop μ-loop
-returns c = unlike (λ e. c .if1 .taken (ap length e))
+returns c = unlike (λ e. let l = ap length e in omega (arith, l, c .if1 .taken))
 
 loop-holds : tie.Need-loop-holds Inv-loop μ-loop
 loop-holds c = (search needs, λ (k : ℕ) (h : k < 0). omega arith)
@@ -42,7 +42,8 @@ shared-slice-read-if2-2 c = search needs
 
 returns-2 : tie.Need-returns-2 Inv-loop μ-loop
 returns-2 c =
-    let at = c .before .before .before .before .loop .i in unlike (λ e. c .if2 .taken (ap (λ (l : List ℕ). getD l at 0) e))
+    let at = c .before .before .before .before .loop .i in
+    unlike (λ e. let same = ap (λ (l : List ℕ). getD l at 0) e in omega (arith, same, c .if2 .taken))
 
 add-i : tie.Need-add-i Inv-loop μ-loop
 add-i c = search needs
