@@ -14,7 +14,6 @@ pub use judged::first_failing;
 pub use numbers::Numbers;
 pub use numbers::less;
 pub use numbers::numbers_of;
-use plan::Regs;
 pub use why::Address;
 pub use why::Code;
 pub use why::Flow;
@@ -22,12 +21,3 @@ pub use why::Place;
 pub use why::Stack;
 pub use why::Why;
 pub use why::fault_of;
-
-// The fault that a step gives on these numbers, or 0 where it gives none, or where no session has such numbers.
-pub fn found(seg: &[u8], region: &[u16], shared: usize, regs: Regs) -> u8 {
-    let n = numbers_of(seg, region.len(), shared, regs);
-    if n.kept {
-        return fault_of(first_failing(seg, region, n));
-    }
-    0
-}

@@ -1,5 +1,5 @@
 -- The table's packed number of a row of appendix B: operand form, words given and words taken, or the mark "not carried".
--- Above: the constant table of the code, held to this by one computed test; below: the opcode definition of `pmachine`.
+-- Above: the table of the code, held to this by one computed test; below: the opcode definition of `pmachine`, the forms' numbers of `operand`.
 use mathlib.Core.Path.{_≡_}
 use mathlib.Core.List.{List, [], _∷_}
 use Prim.Native.Nat.{ℕ, _+_, _*_, _<_}
@@ -17,6 +17,6 @@ unfoldable pub packed : Row → ℕ
 packed (carried forms taken given does) = packedForms forms * 65536 + given * 256 + taken
 packed uncarried = 2147483648
 
--- the number at each first byte is that byte's
-abbrev pub Agrees : List ℕ → Type 0
-Agrees t = (b : ℕ) → b < 256 → getD t b 0 ≡ packed (opcode b)
+-- "Every one of the 256 first bytes has its operand form, words taken and words given in one table": each entry is its first byte's number
+pub record Agrees (t : List ℕ) : Type 0 where
+  pub row : (b : ℕ) → b < 256 → getD t b 0 ≡ packed (opcode b)

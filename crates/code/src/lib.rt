@@ -1,5 +1,6 @@
 // The table of first bytes, and the decoder's judgement of one.
-// Above: the judgement of a step, which takes the answer apart; below: the bytes of `operand`, the opcode definition of `pmachine`.
+// Above: the judgement of a step, which takes the decoder's answer apart; the turn, which asks for the table once; and `instruction`, which
+// reads rows of it. Below: the bytes of `operand`, the opcode definition of `pmachine`.
 ghost use mathlib.Core.Path.{_≡_};
 ghost use Prim.Native.Nat.{_≤_};
 ghost use lib.ListN.{getD};
@@ -14,8 +15,7 @@ pub enum Decode {
 }
 
 // Every first byte: its operands' digits to base 8 times 65,536, the words given times 256, and the words taken; or the top bit alone.
-// The function with the loop lends it: a constant is built anew in each function that names it.
-pub const TABLE: [u32; 256] = [
+const TABLE: [u32; 256] = [
     256,
     256,
     256,
@@ -273,6 +273,13 @@ pub const TABLE: [u32; 256] = [
     2147483648,
     2147483648,
 ];
+
+// The table, for a function with a loop to ask for once and lend: a constant is built anew in each function that names it.
+pub fn table() -> [u32; 256]
+    ensures { λ r. ⌜ Agrees r ⌝ }
+{
+    TABLE
+}
 
 // The mark of a byte that is not carried.
 const MARK: u32 = 2147483648;

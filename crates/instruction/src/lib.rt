@@ -1,6 +1,5 @@
 // What stands at a byte of the code: the first byte, whether it is carried, and its operands as far as they are there.
 // Above: listings, and what is told of a fault. Below: the table of first bytes in `code`, and the reader, which fetches operands.
-use code::TABLE;
 use operand::Operand;
 ghost use mathlib.Core.Path.{_≡_};
 ghost use Prim.Native.Nat.{_<_};
@@ -33,7 +32,7 @@ pub struct Instruction {
 fn row_of(first: u8) -> u32
     ensures { λ r. ⌜ r ≡ packed (opcode first) ⌝ }
 {
-    let t = TABLE;
+    let t = code::table();
     t[first as usize]
 }
 

@@ -18,7 +18,7 @@ use Rattle.code.specs.declared.Decode.{Decode}
 use Rattle.code.specs.declared.Decode.the-variants.{Decoded, Outside, Uncarried}
 use Rattle.code.specs.First.{byRow, firstOf, restOf}
 use Rattle.code.proofs.Decode as decode-enum
-use Rattle.code.proofs.Table.{first-decode}
+use Rattle.code.proofs.Rows.{first-decode}
 use Rattle.plan.specs.declared.Regs.{Regs}
 use Rattle.plan.specs.declared.Planned.the-variants.{Bad}
 use Rattle.plan.specs.Answer.{regsOf, outcomeOf}

@@ -48,7 +48,7 @@ pub fn is_ready(kind: Kind) -> bool
     }
 }
 
-// The steps of a ready session. The table is lent here, once a turn; the registers are locals of one width.
+// The steps of a ready session. The table is made here, once a turn, and lent to each step; the registers are locals of one width.
 fn run(
     mem: &mut [u16],
     at: usize,
@@ -64,6 +64,7 @@ fn run(
     requires { ⌜ Ranged (now seg) (end - at) (regsOf start) ⌝ }
     ensures { λ t. ⌜ TurnedTo (now (seg .entry)) (now (mem .entry)) s at end k (regsOf start) ready t (now (mem .exit)) ⌝ }
 {
+    let table = code::table();
     let mut sp = start.sp;
     let mut m = start.m;
     let mut counter = start.counter;
@@ -76,7 +77,7 @@ fn run(
             end,
             s,
             seg,
-            &code::TABLE,
+            &table,
             facts,
             Regs {
                 sp,

@@ -1,5 +1,5 @@
 -- Operands UB, SB, DB, B and W "as in 000", read at a byte offset of a segment.
--- Below: bytes. Above: the reader and the machine's decoder. Assumes nothing.
+-- Below: bytes. Above: the reader, the table of first bytes, and the decoding of `pmachine`. Assumes nothing.
 use Prim.Native.Nat.{ℕ, _+_, _-_}
 use mathlib.Core.List.{List}
 use mathlib.Core.Bool.{cond}

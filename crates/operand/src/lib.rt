@@ -1,5 +1,5 @@
 // Bytes, words of either byte sex, and the operands of instructions: what a segment's bytes say at a byte offset.
-// Below stands nothing; above stand the segment's header and verdict, the reader, and the machine's step.
+// Below: basis, whose integers a law cites. Above: the segment's header and verdict, the reader, and the machine's step.
 mod fetches;
 mod parts;
 

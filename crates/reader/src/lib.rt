@@ -1,6 +1,6 @@
 // The reader: a bounded view of one segment with a reading place, so that no caller adds offsets by hand.
 // Below: the operands. Above: `instruction`, and so listings and what is told of a fault.
-// Each function over the struct takes it apart and calls one on a slice and numbers.
+// `next` takes the struct apart and calls a function on the slice and numbers; `read_at` is for callers with a slice and numbers.
 use operand::Operand;
 ghost use mathlib.Core.Path.{_≡_};
 ghost use Rattle.operand.specs.Operand.{fetched, fetchedOf, formAt};

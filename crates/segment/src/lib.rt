@@ -1,5 +1,5 @@
 // Code segments: the numbers of the header and of the routines, and what an answer to a segment is. All is total, for any bytes.
-// Below: bytes and words. Above: the verdict of checks 1 to 8, turning a segment's byte sex, the machine and the bench.
+// Below: bytes and words. Above: the verdict of checks 1 to 8, turning a segment's byte sex, the machine, the bench, listings and causes.
 use operand::byte_at;
 use operand::word_at;
 ghost use mathlib.Core.Path.{_≡_};

@@ -1,5 +1,5 @@
 // Small tests, so that a chain of checks is a chain of calls with one promise each; and a part of a slice that needs no bound from the caller.
-// Below: basis, whose laws are cited. Above: operands, segments, sessions and the bench.
+// Below: basis, whose laws are cited. Above: the checks of a segment, sessions, the bench and its soundness, and the commands.
 ghost use mathlib.Core.Path.{_≡_};
 ghost use mathlib.Core.Bool.{_&&_, _||_};
 ghost use Prim.Native.Nat.{_+_};

@@ -1,6 +1,6 @@
 -- What turning keeps and what it changes, what it answers and what it writes: the statements, which `once` and `twins` (proofs/Twice), `answers`
 -- (proofs/Positions), `writes` and `turns-back` (proofs/Outputs) prove.
--- Above: whoever turns or compares segments. Below: word positions and turning (Turn), the layout and the checks of a segment.
+-- Above: whoever turns segments. Below: word positions and turning (Turn), the layout and the checks of a segment.
 -- Assumes nothing.
 use Prim.Native.Nat.{ℕ, _+_, _*_, _/_, _≤_, _<_}
 use mathlib.Core.Path.{_≡_}

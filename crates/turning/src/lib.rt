@@ -1,5 +1,5 @@
 // Turning a segment to the other byte sex: its bytes copied, then the two bytes at each word position written swapped.
-// Above: the commands on files. Below: the numbers of a segment, and the verdict of checks 1 to 8.
+// Above: the command that turns a file, and the program of the cases. Below: the numbers of a segment, and the verdict of checks 1 to 8.
 use segment::Segment;
 use segment::Verdict;
 ghost use mathlib.Core.Path.{_≡_};

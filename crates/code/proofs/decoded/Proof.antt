@@ -1,33 +1,42 @@
 -- `code::decoded` answers as `firstOf` says: by the test of the end, and by the table's mark.
-use mathlib.Core.Path.{_∙_, sym}
+use Prim.Native.Nat.{_≤_, _<_}
+use native.Mathlib.Omega.{arith}
+use mathlib.Core.Path.{_∙_}
+use lib.ListN.{length}
 use borrow.Author.Needs.{needs}
 use borrow.Author.Tests.{le-leb, le-ltb, lt-ltb}
 use Rattle.basis.specs.Bools.{inside}
 use Rattle.code.specs.First.{firstOf}
-use Rattle.code.proofs.Table.{marked, unmarked}
+use Rattle.code.proofs.Rows.{marked, unmarked}
 use Rattle.code.proofs.decoded.Statement.{statement}
 use Rattle.code.proofs.decoded.Tie as tie
-use Rattle.code.proofs.decoded.Reads as reads
-use Rattle.code.proofs.decoded.Lts as lts
-use Rattle.code.proofs.row.Reads as row-reads
 
 returns : tie.Need-returns
 unfolding firstOf inside
-returns c = simp (le-leb _ _ (c .before .before .pre .0), le-ltb _ _ (c .if1 .taken))
-
-shared-slice-read-op : tie.Need-shared-slice-read-op
-shared-slice-read-op c = search needs
-
-row-requires : tie.Need-row-requires
-row-requires c κs = search needs
+returns c =
+    let start = c .before .before in
+    let past : length (start .args .seg .now) ≤ start .args .at = omega arith in
+    simp (le-leb _ _ (start .pre .0), le-ltb _ _ past)
 
 returns-2 : tie.Need-returns-2
 unfolding firstOf inside
-returns-2 c = simp (le-leb _ _ (c .before .before .before .before .before .pre .0), lt-ltb _ _ (c .before .before .before .if1 .left)) (marked _ _ (c .before .before .before .before .shared-slice-known .given (c .before .before .before .before .before .args .at) .fits) (c .before .row .ensures ∙ c .before .before .before .before .before .pre .1 _ (c .before .before .before .before .shared-slice-known .given (c .before .before .before .before .before .args .at) .fits)) (c .if2 .taken))
+returns-2 c =
+    let start = c .before .before .before .before .before in
+    let at = start .args .at in
+    let in-code : at < length (start .args .seg .now) = omega arith in
+    let byte = c .before .before .before .before .shared-slice-known .given at .fits in
+    let mark : 2147483648 ≤ c .before .row .result = omega arith in
+    simp (le-leb _ _ (start .pre .0), lt-ltb _ _ in-code) (marked _ _ byte (c .before .row .ensures ∙ start .pre .1 .row _ byte) mark)
 
 returns-3 : tie.Need-returns-3
 unfolding firstOf inside
-returns-3 c = simp (le-leb _ _ (c .before .before .before .before .before .pre .0), lt-ltb _ _ (c .before .before .before .if1 .left)) (unmarked _ _ (c .before .before .before .before .shared-slice-known .given (c .before .before .before .before .before .args .at) .fits) (c .before .row .ensures ∙ c .before .before .before .before .before .pre .1 _ (c .before .before .before .before .shared-slice-known .given (c .before .before .before .before .before .args .at) .fits)) (c .if2 .left))
+returns-3 c =
+    let start = c .before .before .before .before .before in
+    let at = start .args .at in
+    let in-code : at < length (start .args .seg .now) = omega arith in
+    let byte = c .before .before .before .before .shared-slice-known .given at .fits in
+    let none : c .before .row .result < 2147483648 = omega arith in
+    simp (le-leb _ _ (start .pre .0), lt-ltb _ _ in-code) (unmarked _ _ byte (c .before .row .ensures ∙ start .pre .1 .row _ byte) none)
 
 pub decoded-spec : {M : Type 1} → statement M
-decoded-spec = tie.close (tie.spec returns shared-slice-read-op row-requires returns-2 returns-3)
+decoded-spec = tie.close (tie.spec returns (λ c. search needs) (λ c κs. search needs) returns-2 returns-3)

@@ -9,14 +9,29 @@ use Rattle.instruction.proofs.first_operand.Tie as tie
 
 returns : tie.Need-returns
 returns c =
-    let p = c .before .before .before .before .before .before .pre in
-    c .second-operand .ensures ∙ first-is _ _ _ _ _ _ (row-agrees (c .before .before .before .before .before .before .args .first) _ (search needs) (p .0)) (p .1) (sym (ap fetchedOf (c .before .before .x .given .1)) ∙ c .before .before .before .before .by-form .ensures)
+    let asked = c .before .before .before .before in
+    let start = asked .before .before in
+    let row = row-agrees (start .args .first) _ (search needs) (start .pre .0) in
+    let there = sym (ap fetchedOf (c .before .before .x .given .1)) ∙ asked .by-form .ensures in
+    c .second-operand .ensures ∙ first-is _ _ _ _ _ _ row (start .pre .1) there
 
 returns-2 : tie.Need-returns-2
 returns-2 c =
-    let p = c .before .before .before .before .before .before .pre in
-    c .cut .ensures ∙ first-is _ _ _ _ _ _ (row-agrees (c .before .before .before .before .before .before .args .first) _ (search needs) (p .0)) (p .1) (sym (ap fetchedOf (c .before .before .x2 .given .1)) ∙ c .before .before .before .before .by-form .ensures)
+    let asked = c .before .before .before .before in
+    let start = asked .before .before in
+    let row = row-agrees (start .args .first) _ (search needs) (start .pre .0) in
+    let missing = sym (ap fetchedOf (c .before .before .x2 .given .1)) ∙ asked .by-form .ensures in
+    c .cut .ensures ∙ first-is _ _ _ _ _ _ row (start .pre .1) missing
 
 pub first-operand-spec : {M : Type 1} → statement M
 first-operand-spec =
-    tie.close (tie.spec (λ c. search needs) (λ c κs. search needs) (λ c. search needs) (λ c κs. search needs) (λ c. search needs) (λ c κs. search needs) returns returns-2)
+    tie.close
+    (tie.spec
+    (λ c. search needs)
+    (λ c κs. search needs)
+    (λ c. search needs)
+    (λ c κs. search needs)
+    (λ c. search needs)
+    (λ c κs. search needs)
+    returns
+    returns-2)

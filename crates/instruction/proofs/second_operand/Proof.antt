@@ -9,14 +9,30 @@ use Rattle.instruction.proofs.second_operand.Tie as tie
 
 returns : tie.Need-returns
 returns c =
-    let p = c .before .before .before .before .before .pre in
-    second-is _ _ _ _ _ _ _ (row-agrees (c .before .before .before .before .before .args .first) _ (search needs) (p .0)) (p .1) (sym (ap fetchedOf (c .before .y .given .1)) ∙ c .before .before .before .by-form .ensures)
+    let asked = c .before .before .before in
+    let start = asked .before .before in
+    let row = row-agrees (start .args .first) _ (search needs) (start .pre .0) in
+    let there = sym (ap fetchedOf (c .before .y .given .1)) ∙ asked .by-form .ensures in
+    second-is _ _ _ _ _ _ _ row (start .pre .1) there
 
 returns-2 : tie.Need-returns-2
 returns-2 c =
-    let p = c .before .before .before .before .before .before .pre in
-    c .cut .ensures ∙ second-is _ _ _ _ _ _ _ (row-agrees (c .before .before .before .before .before .before .args .first) _ (search needs) (p .0)) (p .1) (sym (ap fetchedOf (c .before .before .y2 .given .1)) ∙ c .before .before .before .before .by-form .ensures)
+    let asked = c .before .before .before .before in
+    let start = asked .before .before in
+    let row = row-agrees (start .args .first) _ (search needs) (start .pre .0) in
+    let missing = sym (ap fetchedOf (c .before .before .y2 .given .1)) ∙ asked .by-form .ensures in
+    c .cut .ensures ∙ second-is _ _ _ _ _ _ _ row (start .pre .1) missing
 
 pub second-operand-spec : {M : Type 1} → statement M
 second-operand-spec =
-    tie.close (tie.spec (λ c. search needs) (λ c κs. search needs) (λ c. search needs) (λ c. search needs) (λ c. search needs) (λ c. search needs) (λ c κs. search needs) returns returns-2)
+    tie.close
+    (tie.spec
+    (λ c. search needs)
+    (λ c κs. search needs)
+    (λ c. search needs)
+    (λ c. search needs)
+    (λ c. search needs)
+    (λ c. search needs)
+    (λ c κs. search needs)
+    returns
+    returns-2)
