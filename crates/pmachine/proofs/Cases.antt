@@ -29,13 +29,13 @@ use Rattle.pmachine.proofs.Steps.{store-step, load-step, constant-step,
 
 module _ (s shared : List ℕ) where
   -- a first step, and k more
-  more : (k : ℕ) (t u v : State) → step s shared t ≡ u → run s shared k u ≡ v → run s shared (suc k) t ≡ v
+  pub more : (k : ℕ) (t u v : State) → step s shared t ≡ u → run s shared k u ≡ v → run s shared (suc k) t ≡ v
   more k t u v e f = run-suc s shared k t ∙ ap (run s shared k) e ∙ f
 
-  one-step : (t u : State) → step s shared t ≡ u → run s shared 1 t ≡ u
+  pub one-step : (t u : State) → step s shared t ≡ u → run s shared 1 t ≡ u
   one-step t u e = more 0 t u u e (run-none s shared u)
 
-  two-steps : (t u v : State) → step s shared t ≡ u → step s shared u ≡ v → run s shared 2 t ≡ v
+  pub two-steps : (t u v : State) → step s shared t ≡ u → step s shared u ≡ v → run s shared 2 t ≡ v
   two-steps t u v e f = more 1 t u v e (one-step u v f)
 
 set-same : (l : List ℕ) (i v : ℕ) → getD l i 0 ≡ v → set l i v ≡ l

@@ -13,3 +13,4 @@ pub mod Accepted
 pub mod Steps
 pub mod Calls
 pub mod Cases
+pub mod Arithmetic

@@ -15,7 +15,7 @@ use Rattle.basis.proofs.Bools.{inside-holds, cond-holds}
 use Rattle.operand.specs.Bytes.{byteAt}
 use Rattle.operand.specs.Operand.{Form, UB, SB, DB, B, W, got, given, signed, fetched}
 use Rattle.pmachine.specs.State.{Registers, faulted}
-use Rattle.pmachine.specs.Meaning.{Whose, Meaning, constant, load, store, index, indirect, binary, duplicate, swap, subrange, jump, jump-if}
+use Rattle.pmachine.specs.Meaning.{Whose, Meaning, constant, load, store, index, indirect, unary, binary, division, duplicate, swap, subrange, jump, jump-if}
 use Rattle.pmachine.specs.Opcode.{carried, one, opcode}
 use Rattle.pmachine.specs.Decoding.{joined, andThen, operands, lawful, allLawful, Instruction, instruction, decodedWith, rowDecoded, decode}
 use Rattle.pmachine.specs.Step.{Outcome, goes, floor, private, wordAt, readable, target, reaches, isBroken, recordOf, reached, moved}
@@ -207,11 +207,25 @@ module _ (s shared w : List ℕ) (r : Registers) where
   duplicate-step n sp d e low some =
       goes-on duplicate 1 2 n sp d (omega arith) some tt (moved r sp n) sp (getD w (r .sp + 0) 0 ∷ []) low refl
 
+  pub unary-step : (f : ℕ → ℕ) (n : ℕ) → decode s (r .counter) ≡ instruction (inst (unary f) 1 1 n) → floor s ≤ r .sp → r .sp + 1 ≤ length w
+      → step s shared (at-work w r) ≡ at-work (set w (r .sp) (f (getD w (r .sp + 0) 0))) (moved r (r .sp) n)
+  unfolding effect asks written
+  unary-step f n d low some =
+      goes-on (unary f) 1 1 n (r .sp) d (omega arith) some tt (moved r (r .sp) n) (r .sp) (f (getD w (r .sp + 0) 0) ∷ []) low refl
+
   pub binary-step : (f : ℕ → ℕ → ℕ) (n : ℕ) → decode s (r .counter) ≡ instruction (inst (binary f) 2 1 n) → floor s ≤ r .sp + 1 → r .sp + 2 ≤ length w
       → step s shared (at-work w r) ≡ at-work (set w (r .sp + 1) (f (getD w (r .sp + 1) 0) (getD w (r .sp + 0) 0))) (moved r (r .sp + 1) n)
   unfolding effect asks written
   binary-step f n d low some =
       goes-on (binary f) 2 1 n (r .sp + 1) d (omega arith) some tt
+      (moved r (r .sp + 1) n) (r .sp + 1) (f (getD w (r .sp + 1) 0) (getD w (r .sp + 0) 0) ∷ []) low refl
+
+  pub division-step : (f : ℕ → ℕ → ℕ) (n : ℕ) → decode s (r .counter) ≡ instruction (inst (division f) 2 1 n) → (getD w (r .sp + 0) 0 ≡ 0 → ⊥)
+      → floor s ≤ r .sp + 1 → r .sp + 2 ≤ length w
+      → step s shared (at-work w r) ≡ at-work (set w (r .sp + 1) (f (getD w (r .sp + 1) 0) (getD w (r .sp + 0) 0))) (moved r (r .sp + 1) n)
+  unfolding effect asks written
+  division-step f n d not-zero low some =
+      goes-on (division f) 2 1 n (r .sp + 1) d (omega arith) some (ne-eqb (getD w (r .sp + 0) 0) 0 not-zero, tt)
       (moved r (r .sp + 1) n) (r .sp + 1) (f (getD w (r .sp + 1) 0) (getD w (r .sp + 0) 0) ∷ []) low refl
 
   pub swap-step : (n : ℕ) → decode s (r .counter) ≡ instruction (inst swap 2 2 n) → floor s ≤ r .sp → r .sp + 2 ≤ length w

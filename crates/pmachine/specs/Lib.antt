@@ -8,3 +8,4 @@ pub mod Run
 pub mod Sound
 pub mod Kept
 pub mod Cases
+pub mod Arithmetic
