@@ -8,7 +8,7 @@ use native.Mathlib.Omega.{arith}
 use native.Mathlib.Decide.{decLe}
 use lib.Dec.{T, leb, ltb}
 use Rattle.basis.specs.Bools.{every, Holds, inside}
-use borrow.Author.Tests.{leb-true, ltb-true, le-leb, lt-leb}
+use borrow.Author.Tests.{leb-true, ltb-true, le-leb, lt-leb, lt-ltb}
 
 pub and-fst : (a b : Bool) → (a && b) ≡ true → a ≡ true
 and-fst true b h = refl
@@ -46,6 +46,10 @@ pub inside-true : (lo end x : ℕ) → inside lo end x ≡ true → (lo ≤ x) �
 unfolding inside
 inside-true lo end x h =
     (leb-true lo x (and-fst (leb lo x) (ltb x end) h), ltb-true x end (and-snd (leb lo x) (ltb x end) h))
+
+pub inside-holds : (lo end x : ℕ) → lo ≤ x → x < end → inside lo end x ≡ true
+unfolding inside
+inside-holds lo end x l h = and-both (leb lo x) (ltb x end) (le-leb lo x l) (lt-ltb x end h)
 
 pub or-cases : {P : Type 0} (a b : Bool) → (a || b) ≡ true → (a ≡ true → P) → (b ≡ true → P) → P
 or-cases true b h f g = f refl

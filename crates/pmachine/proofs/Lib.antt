@@ -10,3 +10,7 @@ pub mod Runs
 pub mod Keeps
 pub mod Frame
 pub mod Accepted
+pub mod Steps
+pub mod Calls
+pub mod Cases
+pub mod Arithmetic

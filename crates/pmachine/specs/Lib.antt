@@ -1,4 +1,4 @@
--- The documented p-machine: definitions only. Above: code, plan and machine, which are proved to do the same; below: segment, operand, word.
+-- The documented p-machine: definitions, and the statements of its laws. Above: code, plan and machine, which are proved to do the same; below: segment, operand, word.
 pub mod State
 pub mod Meaning
 pub mod Opcode
@@ -7,3 +7,5 @@ pub mod Step
 pub mod Run
 pub mod Sound
 pub mod Kept
+pub mod Cases
+pub mod Arithmetic
