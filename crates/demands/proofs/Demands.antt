@@ -6,6 +6,7 @@ use Prim.Native.Nat.{ℕ, _+_, _≤_, _<_}
 use lib.ListN.{length}
 use Rattle.basis.specs.Checks.{ruling}
 use Rattle.basis.proofs.Checks.{all-pass, pass-all, first-failing, failing-first}
+use Rattle.basis.proofs.Integer.{division, remainder-smaller, remainder-sign}
 use Rattle.operand.specs.Operand.{Form, Fetched, got, out, fetched}
 use Rattle.operand.specs.Reading.{Lies}
 use Rattle.operand.proofs.Operands.{reads}
@@ -14,6 +15,10 @@ use Rattle.turning.specs.Twin.{Twin}
 use Rattle.turning.proofs.Positions.{turn-as-judged, turn-nine, turn-ten, turn-accepts}
 use Rattle.turning.proofs.Twice.{once, twins}
 use Rattle.turning.proofs.Outputs.{kept, writes, turns-back}
+use Rattle.pmachine.proofs.Rows.{lines-consecutive}
+use Rattle.pmachine.proofs.Frame.{step-kept}
+use Rattle.pmachine.proofs.Keeps.{step-keeps, run-keeps}
+use Rattle.pmachine.proofs.Runs.{run-add, count-add, count-most, count-all}
 use Rattle.sound.specs.Bench.{World}
 use Rattle.promises.specs.Words.{Zeroed, OnlyRecord, Opens, Closes}
 use Rattle.promises.proofs.Kept.{new-sound, new-answers}
@@ -23,6 +28,10 @@ use Rattle.promises.proofs.Closings.{closed}
 use Rattle.isolation.specs.Isolation.{Turn, OnItsOwn, Agree}
 use Rattle.isolation.proofs.Theorem.{isolation}
 use Rattle.demands.specs.Demands.{OnlyThere, Opened, Closed, OtherSex, OnItsOwn as Own, Alike, Demands}
+use Rattle.demands.proofs.Cases.{cases, walks}
+use Rattle.demands.proofs.Calls.{calls}
+use Rattle.demands.proofs.Arithmetic.{arithmetic}
+use Rattle.demands.proofs.Marked.{cases-hold}
 use Rattle.demands.proofs.Witness.{witness}
 
 -- ---- openings and closings
@@ -130,6 +139,22 @@ demands =
       operand-there = there;
       operand-cut = cut;
       witness = witness;
+      lines-in-order = lines-consecutive;
+      division = division;
+      remainder-smaller = remainder-smaller;
+      remainder-sign = remainder-sign;
+      step-kept = step-kept;
+      step-keeps = step-keeps;
+      run-keeps = run-keeps;
+      run-add = run-add;
+      count-add = count-add;
+      count-most = count-most;
+      count-all = count-all;
+      cases = cases;
+      calls = calls;
+      walks = walks;
+      arithmetic = arithmetic;
+      marked = cases-hold;
       other-sex = λ s ok none. other-sex s _ (twins s ok none);
       turns-back = λ s a b h ea eb. (turns-back s a b h ea eb .accepted-again, turns-back s a b h ea eb .restored);
       once = once .both-rules;

@@ -7,11 +7,17 @@ use mathlib.Core.List.{List, [], _∷_, _++_, map}
 use mathlib.Core.Bool.{Bool, true, false, not, _||_}
 use Prim.Native.Nat.{ℕ, _+_, _*_, _-_, _/_, _≤_, _<_}
 use lib.ListN.{length, getD, take, drop}
+use lib.IntN.{ℤ, pos, negsuc, negℤ, natAbs, _+ℤ_, _*ℤ_}
+use lib.Signed.{quotZ, remZ}
 use Rattle.basis.specs.Checks.{Check, passed, refused, ruling, passes, FirstFailing}
 use Rattle.operand.specs.Bytes.{byteAt}
 use Rattle.operand.specs.Operand.{Form, got, out, fetched}
 use Rattle.segment.specs.Head.{least, word, dict, reloc, pool, real, count, entry, datasize, exitic, start}
 use Rattle.segment.specs.Judge.{checks, judged}
+use Rattle.pmachine.specs.State.{Registers, State}
+use Rattle.pmachine.specs.Opcode.{appendixB, consecutive}
+use Rattle.pmachine.specs.Run.{isReady, step, run, stepsDone}
+use Rattle.pmachine.specs.Sound.{inRange, Loaded}
 use Rattle.turning.specs.Turn.{position, swapAt, turned, turnRuling, outputOf}
 use Rattle.interleave.specs.Interleave.{By, mine, oneByOne, Below}
 use Rattle.sound.specs.Below.{startOf, cpuOf, runOf, countOf}
@@ -25,6 +31,9 @@ use Rattle.bench.specs.Entries.{newOf, loadedAt, lenOk, recordFor, openOf, fres
 use Rattle.promises.specs.Requests.{Request, asked, checksFor}
 use Rattle.promises.specs.Words.{InRegion, Free, GapFrom}
 use Rattle.isolation.specs.Isolation.{Turn, after, answersOf, stepsOf, reported, reportsOf}
+use Rattle.demands.specs.Cases.{Cases, Calls, Walks}
+use Rattle.demands.specs.Arithmetic.{Leaves}
+use Rattle.demands.specs.Marked.{All, marked-cases}
 use Rattle.demands.specs.Witness.{Witness}
 
 -- ---- words and records after an opening or a closing: from w to v, the len words from a on become zero, no other word changes, and only
@@ -143,7 +152,41 @@ pub record Demands : Type 0 where
   -- none of this is empty: a bench with a session of every kind, an accepted turn of each, and every refusal 11 to 17
   pub witness : Witness
 
-  -- ======== 2: "A segment without a constant pool, turned to the other byte sex, reads with the same header numbers and routines, and the same
+  -- ======== 2: "Each step is the transition of the documented p-machine, or the one fault that document 01 names for it, with that session's
+  -- words and registers as before the step." The machine is the definition of `pmachine`; that the code's turn is its run is the contract of `turn`.
+
+  -- the lines of appendix B stand in the order of the numbers, none left out and none twice
+  pub lines-in-order : consecutive 0 appendixB ≡ true
+  -- "The quotient is cut towards zero and the remainder takes the dividend's sign."
+  pub division : (z d : ℤ) → quotZ z d *ℤ d +ℤ remZ z d ≡ z
+  pub remainder-smaller : (z d : ℤ) → 0 < natAbs d → natAbs (remZ z d) < natAbs d
+  pub remainder-sign :
+      (a : ℕ) (d : ℤ) → (remZ (pos a) d ≡ pos (natAbs (remZ (pos a) d))) × (remZ (negsuc a) d ≡ negℤ (pos (natAbs (remZ (negsuc a) d))))
+  -- "Only the session's kind changes": a step that faults or finishes leaves words and registers
+  pub step-kept :
+      (s shared : List ℕ) (t : State) → isReady (t .kind) ≡ true → isReady (step s shared t .kind) ≡ false
+      → (step s shared t .words ≡ t .words) × (step s shared t .registers ≡ t .registers)
+  -- a step, and a turn, keep what soundness says of a session
+  pub step-keeps :
+      (s shared : List ℕ) (l : ℕ) → Loaded s → (t : State) → length (t .words) ≡ l → inRange s l (t .registers) (t .kind) ≡ true
+      → inRange s l (step s shared t .registers) (step s shared t .kind) ≡ true
+  pub run-keeps :
+      (s shared : List ℕ) (l : ℕ) → Loaded s → (k : ℕ) (t : State) → length (t .words) ≡ l → inRange s l (t .registers) (t .kind) ≡ true
+      → inRange s l (run s shared k t .registers) (run s shared k t .kind) ≡ true
+  -- a steps and then b steps are a + b steps, and the steps done add up; they are at most k, and k if the session is still ready
+  pub run-add : (s shared : List ℕ) (a b : ℕ) (t : State) → run s shared (a + b) t ≡ run s shared b (run s shared a t)
+  pub count-add :
+      (s shared : List ℕ) (a b : ℕ) (t : State) → stepsDone s shared (a + b) t ≡ stepsDone s shared a t + stepsDone s shared b (run s shared a t)
+  pub count-most : (s shared : List ℕ) (k : ℕ) (t : State) → stepsDone s shared k t ≤ k
+  pub count-all : (s shared : List ℕ) (k : ℕ) (t : State) → isReady (run s shared k t .kind) ≡ true → stepsDone s shared k t ≡ k
+  -- what a wrong line of appendix B would break, also if the code were wrong in the same way; and the marked cases (a) to (l)
+  pub cases : (s shared w : List ℕ) (r : Registers) → Cases s shared w r
+  pub calls : Calls
+  pub walks : (w : List ℕ) (m : ℕ) → Walks w m
+  pub arithmetic : (x y : ℕ) → x ≤ 31 → y ≤ 31 → Leaves x y
+  pub marked : All marked-cases
+
+  -- "A segment without a constant pool, turned to the other byte sex, reads with the same header numbers and routines, and the same
   -- code outside those words, and turned twice gives its first bytes."
 
   pub other-sex : (s : List ℕ) → judged s ≡ passed → pool s ≡ 0 → OtherSex s (turned s)

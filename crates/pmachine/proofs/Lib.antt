@@ -10,7 +10,3 @@ pub mod Runs
 pub mod Keeps
 pub mod Frame
 pub mod Accepted
-pub mod Steps
-pub mod Calls
-pub mod Cases
-pub mod Arithmetic

@@ -7,5 +7,3 @@ pub mod Step
 pub mod Run
 pub mod Sound
 pub mod Kept
-pub mod Cases
-pub mod Arithmetic

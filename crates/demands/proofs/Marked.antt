@@ -14,9 +14,9 @@ use Rattle.pmachine.specs.Decoding.{joined, andThen, operands, lawful, allLawfu
 use Rattle.pmachine.specs.Step.{follow, reached, wordAt, target, markAt, resumes, groundFor, firstFault, asks, effect, outcome, judgedBy, judge}
 use Rattle.pmachine.specs.Sound.{starting, opened}
 use Rattle.pmachine.specs.Run.{isReady, written, settled, step, run, stepsDone}
-use Rattle.marked.specs.Table.{All, after, cutShort, afterCut, cases}
+use Rattle.demands.specs.Marked.{All, after, cutShort, afterCut, marked-cases}
 
-pub cases-hold : All cases
-unfolding cases after cutShort afterCut minus inside modulo integerOf wordOf unary binary addOf mulOf quotOf remOf wordBy ifThere signed fetched least word dict count entry datasize start pool small smallTurned frame framed position other listOf swapByte swapAt turned opcode rowIn appendixB joined andThen operands lawful allLawful decodedWith rowDecoded decode follow reached wordAt target markAt resumes groundFor firstFault asks effect outcome judgedBy judge starting opened isReady written settled step run stepsDone
+pub cases-hold : All marked-cases
+unfolding marked-cases after cutShort afterCut minus inside modulo integerOf wordOf unary binary addOf mulOf quotOf remOf wordBy ifThere signed fetched least word dict count entry datasize start pool small smallTurned frame framed position other listOf swapByte swapAt turned opcode rowIn appendixB joined andThen operands lawful allLawful decodedWith rowDecoded decode follow reached wordAt target markAt resumes groundFor firstFault asks effect outcome judgedBy judge starting opened isReady written settled step run stepsDone
 cases-hold =
     (refl, (refl, (refl, (refl, (refl, ((refl, refl), (refl, (refl, (refl, (refl, (refl, (refl, (refl, ((refl, refl), ((refl, refl), (refl, tt))))))))))))))))

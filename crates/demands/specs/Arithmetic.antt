@@ -10,10 +10,10 @@ use lib.Dec.{leb, eqb}
 use lib.IntN.{pos, negℤ, _+ℤ_, _-ℤ_, _*ℤ_}
 use lib.Signed.{quotZ, remZ, leZ}
 use Rattle.basis.specs.Integer.{wordOf}
 use Rattle.pmachine.specs.State.{Registers}
 use Rattle.pmachine.specs.Step.{floor, moved}
 use Rattle.pmachine.specs.Run.{run}
-use Rattle.pmachine.specs.Cases.{at-work, At}
+use Rattle.demands.specs.Cases.{at-work, At}
 
 -- the byte makes this word of TOS-1 = x and TOS = y
 abbrev pub OfTwo : ℕ → ℕ → ℕ → ℕ → Type 0

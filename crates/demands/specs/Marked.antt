@@ -1,5 +1,5 @@
 -- The marked cases (a) to (l) of document 01 as a single table, and what each says.
--- Above: `cases-hold` (proofs/Table) proves all of it at once; below: every layer that a case speaks of.
+-- Above: Demands; `cases-hold` (proofs/Marked) proves all of it at once; below: every layer that a case speaks of.
 use mathlib.Core.Path.{_≡_}
 use mathlib.Core.List.{List, [], _∷_, _++_}
 use Prim.Native.Nat.{ℕ}
@@ -48,8 +48,8 @@ cutShort = take 30 small ++ (0x87 ∷ 0x80 ∷ [])
 unfoldable pub afterCut : State
 afterCut = record { words = replicate 16 0; registers = record { sp = 16; m = 1; counter = 30; routine = 1 }; kind = faulted 1 30 }
 
-unfoldable pub cases : List Case
-cases =
+unfoldable pub marked-cases : List Case
+marked-cases =
     reads B (0x7F ∷ []) (got 127 1)  -- (a) B from 7F is 127
     ∷ reads B (0x80 ∷ 0x7F ∷ []) (got 127 2)  -- (b) 80 7F also 127, two bytes
     ∷ reads B (0x80 ∷ 0x80 ∷ []) (got 128 2)  -- (c) 80 80 is 128

@@ -13,17 +13,17 @@ use borrow.Author.Tests.{lt-ltb, le-ltb, le-leb, eq-eqb, ne-eqb}
 use Rattle.basis.specs.Integer.{truth, ordered, leqOf}
 use Rattle.basis.proofs.Bools.{inside-holds, cond-holds}
 use Rattle.operand.specs.Bytes.{byteAt}
-use Rattle.operand.specs.Operand.{Form, UB, SB, DB, B, W, got, given, signed, fetched}
+use Rattle.operand.specs.Operand.{Form, UB, SB, DB, B, W, got, ifThere, signed, fetched}
 use Rattle.pmachine.specs.State.{Registers, faulted}
 use Rattle.pmachine.specs.Meaning.{Whose, Meaning, constant, load, store, index, indirect, unary, binary, division, duplicate, swap, subrange, jump, jump-if}
 use Rattle.pmachine.specs.Opcode.{carried, one, opcode}
 use Rattle.pmachine.specs.Decoding.{joined, andThen, operands, lawful, allLawful, Instruction, instruction, decodedWith, rowDecoded, decode}
 use Rattle.pmachine.specs.Step.{Outcome, goes, floor, private, wordAt, readable, target, reaches, isBroken, recordOf, reached, moved}
 use Rattle.pmachine.specs.Step.{Ground, _when_, groundFor, firstFault, order, below, asks, effect, outcome, judgedBy, judge}
 use Rattle.pmachine.specs.Run.{isReady, written, step}
-use Rattle.pmachine.specs.Cases.{at-work}
+use Rattle.demands.specs.Cases.{at-work}
 use Rattle.pmachine.proofs.Judged.{Clear}
 use Rattle.pmachine.proofs.Frame.{step-goes, step-fault}
 
 -- ---- bytes that stand one after another, and the instruction that they hold
 
@@ -59,23 +59,23 @@ module _ (s : List ℕ) where
 
   -- one operand, of each form
   pub fetched-UB : (c x : ℕ) (bs : List ℕ) → Code s c (x ∷ bs) → fetched UB s c ≡ got x (c + 1)
-  unfolding fetched given
+  unfolding fetched ifThere
   fetched-UB c x bs h = rw (lt-ltb c (length s) (h .1), h .2)
 
   pub fetched-SB : (c x : ℕ) (bs : List ℕ) → Code s c (x ∷ bs) → fetched SB s c ≡ got (signed x) (c + 1)
-  unfolding fetched given
+  unfolding fetched ifThere
   fetched-SB c x bs h = rw (lt-ltb c (length s) (h .1), h .2)
 
   pub fetched-DB : (c x : ℕ) (bs : List ℕ) → Code s c (x ∷ bs) → fetched DB s c ≡ got x (c + 1)
-  unfolding fetched given
+  unfolding fetched ifThere
   fetched-DB c x bs h = rw (lt-ltb c (length s) (h .1), h .2)
 
   pub fetched-B : (c x : ℕ) (bs : List ℕ) → Code s c (x ∷ bs) → x ≤ 127 → fetched B s c ≡ got x (c + 1)
-  unfolding fetched given
+  unfolding fetched ifThere
   fetched-B c x bs h l = rw (lt-ltb c (length s) (h .1), h .2, lt-ltb x 128 (omega arith))
 
   pub fetched-W : (c x y : ℕ) (bs : List ℕ) → Code s c (x ∷ y ∷ bs) → fetched W s c ≡ got (x + 256 * y) (c + 2)
-  unfolding fetched given
+  unfolding fetched ifThere
   fetched-W c x y bs h = rw (lt-ltb c (length s) (h .1), h .2, lt-ltb (c + 1) (length s) (h .3 .1), h .3 .2)
 
 -- ---- one step

@@ -14,17 +14,17 @@ use borrow.Author.Tests.{le-leb, eqb-true}
 use Rattle.basis.specs.Integer.{modulo, integerOf, wordOf, unary, binary, flipped, truth, ordered}
 use Rattle.basis.specs.Integer.{negOf, magOf, incOf, decOf, notOf, addOf, subOf, mulOf, quotOf, remOf, eqOf, neOf, leqOf, geqOf, leuOf, geuOf, andOf, orOf}
 use Rattle.basis.proofs.Integer.{low}
 use Rattle.pmachine.specs.State.{Registers}
 use Rattle.pmachine.specs.Meaning.{Meaning, constant, division, unary as unary-of, binary as binary-of}
 use Rattle.pmachine.specs.Opcode.{carried, opcode, rowIn, appendixB}
 use Rattle.pmachine.specs.Decoding.{instruction, decode}
 use Rattle.pmachine.specs.Step.{floor, moved}
 use Rattle.pmachine.specs.Run.{step}
-use Rattle.pmachine.specs.Cases.{at-work}
-use Rattle.pmachine.specs.Arithmetic.{OfTwo, OfOne, Arithmetic}
+use Rattle.demands.specs.Cases.{at-work}
+use Rattle.demands.specs.Arithmetic.{OfTwo, OfOne, Arithmetic}
 use Rattle.pmachine.proofs.Rows.{at-number}
-use Rattle.pmachine.proofs.Steps.{coded, inst, decode-bare, constant-step, unary-step, binary-step, division-step}
-use Rattle.pmachine.proofs.Cases.{more, two-steps}
+use Rattle.demands.proofs.Steps.{coded, inst, decode-bare, constant-step, unary-step, binary-step, division-step}
+use Rattle.demands.proofs.Cases.{more, two-steps}
 
 -- SLDC
 small-constant : (x : ℕ) → x ≤ 31 → opcode x ≡ carried [] 0 1 (λ _. constant x)

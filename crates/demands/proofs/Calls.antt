@@ -11,18 +11,18 @@ use borrow.Author.Tests.{le-leb, ne-eqb, ltb-false}
 use Rattle.basis.proofs.Bools.{inside-holds}
 use Rattle.segment.specs.Head.{count, datasize}
 use Rattle.operand.specs.Operand.{UB, DB, B, got}
 use Rattle.pmachine.specs.State.{Registers, Kind, ready, finished, faulted, State}
 use Rattle.pmachine.specs.Meaning.{Whose, globals, up, call, return}
 use Rattle.pmachine.specs.Opcode.{carried, one, two, opcode, rowIn, appendixB}
 use Rattle.pmachine.specs.Decoding.{lawful, instruction, decode}
 use Rattle.pmachine.specs.Step.{Outcome, floor, newRecord, markAt, resumes, Link, reaches, broken, isBroken, recordOf, reached, groundFor, asks, effect}
 use Rattle.pmachine.specs.Sound.{Ranged}
 use Rattle.pmachine.specs.Run.{isReady, written, settled, step}
-use Rattle.pmachine.specs.Cases.{at-work, At, CallReturns, Calls}
+use Rattle.demands.specs.Cases.{at-work, At, CallReturns, Calls}
 use Rattle.pmachine.proofs.Judged.{first-holds}
 use Rattle.pmachine.proofs.Runs.{step-ready}
 use Rattle.pmachine.proofs.Frame.{written-at}
-use Rattle.pmachine.proofs.Steps.{coded, inst, decode-one, decode-two, fetched-UB, fetched-DB, fetched-B, checksAt, judged-at, goes-on}
+use Rattle.demands.proofs.Steps.{coded, inst, decode-one, decode-two, fetched-UB, fetched-DB, fetched-B, checksAt, judged-at, goes-on}
 
 -- what a call has left that goes on: words u, registers q
 record Called (s w u : List ℕ) (r q : Registers) (p : Whose) (k n : ℕ) : Type 0 where

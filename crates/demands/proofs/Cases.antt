@@ -13,17 +13,17 @@ use borrow.Author.Tests.{lt-ltb, le-ltb, eq-eqb}
 use lib.IntN.{pos, natAbs, subℕ, _+ℤ_, pos-ne-negsuc}
 use Rattle.basis.specs.Integer.{integerOf, truth, ordered, eqOf}
 use Rattle.operand.specs.Operand.{SB, B, W, got, signed}
 use Rattle.pmachine.specs.State.{Registers, faulted, State}
 use Rattle.pmachine.specs.Meaning.{Whose, globals, up, Meaning, constant, load, store, index, indirect, binary, duplicate, swap, subrange, jump, jump-if}
 use Rattle.pmachine.specs.Opcode.{carried, one, opcode, rowIn, appendixB}
 use Rattle.pmachine.specs.Decoding.{lawful, instruction, decode}
 use Rattle.pmachine.specs.Step.{floor, pointer, target, Link, reaches, broken, follow, reached, moved}
 use Rattle.pmachine.specs.Run.{step, run}
-use Rattle.pmachine.specs.Cases.{at-work, Leads, At, Cases, onward, Walks}
+use Rattle.demands.specs.Cases.{at-work, Leads, At, Cases, onward, Walks}
 use Rattle.pmachine.proofs.Runs.{run-none, run-suc}
 use Rattle.pmachine.proofs.Links.{Arrives, follow-arrives}
-use Rattle.pmachine.proofs.Steps.{Code, coded, inst, decode-bare, decode-one, fetched-SB, fetched-B, fetched-W, between}
-use Rattle.pmachine.proofs.Steps.{store-step, load-step, constant-step, indirect-step, index-step, jump-step, taken-step, passed-step, duplicate-step, binary-step, swap-step, subrange-step}
+use Rattle.demands.proofs.Steps.{Code, coded, inst, decode-bare, decode-one, fetched-SB, fetched-B, fetched-W, between}
+use Rattle.demands.proofs.Steps.{store-step, load-step, constant-step, indirect-step, index-step, jump-step, taken-step, passed-step, duplicate-step, binary-step, swap-step, subrange-step}
 
 -- ---- steps together
 
