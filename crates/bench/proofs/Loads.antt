@@ -54,7 +54,7 @@ module _ (store m : List ℕ) (b : Bench) (slot start len : ℕ) where
           loads-by =
               ap (λ (x : Ruling). ruled x (worldOf b m) (done 0 (worldOf (at-slots b (set (b .slots) slot (loadedSlot start len))) m)))
               (passed-then (check 11 0 (soundB b m store) ∷ check 12 0 (freeSlot (worldOf b m) slot) ∷ check 17 0 (rangeOk store start len) ∷ [])
-                (checks (codeOf store (loadedSlot start len))) (h, (free, (rk, tt)))
+              (checks (codeOf store (loadedSlot start len))) (h, (free, (rk, tt)))
               ∙ sym (ev ∙ ap judged ec))
 
           pub judged-bad : (r : Out) (n p : ℕ) → r .bench ≡ b → r .answer ≡ Refused n p → v ≡ Rejected n p → resultOf r m ≡ loadOf store slot start len (worldOf b m)

@@ -151,7 +151,6 @@ pub record Demands : Type 0 where
   pub operand-cut : (f : Form) (s : List ℕ) (at p : ℕ) → fetched f s at ≡ out p → at ≤ length s → p ≡ length s
   -- none of this is empty: a bench with a session of every kind, an accepted turn of each, and every refusal 11 to 17
   pub witness : Witness
-
   -- ======== 2: "Each step is the transition of the documented p-machine, or the one fault that document 01 names for it, with that session's
   -- words and registers as before the step." The machine is the definition of `pmachine`; that the code's turn is its run is the contract of `turn`.
 
@@ -185,7 +184,6 @@ pub record Demands : Type 0 where
   pub walks : (w : List ℕ) (m : ℕ) → Walks w m
   pub arithmetic : (x y : ℕ) → x ≤ 31 → y ≤ 31 → Leaves x y
   pub marked : All marked-cases
-
   -- "A segment without a constant pool, turned to the other byte sex, reads with the same header numbers and routines, and the same
   -- code outside those words, and turned twice gives its first bytes."
 
@@ -196,7 +194,6 @@ pub record Demands : Type 0 where
       → (turnRuling (outputOf s a) (length b) ≡ passed) × (outputOf (outputOf s a) b ≡ s)
   -- "once, even if two rules name it"
   pub once : (p q : ℕ → Bool) (s o : List ℕ) → swapAt q s (swapAt p s o) ≡ swapAt (λ w. p w || q w) s o
-
   -- ======== 3: "Take a sound bench and any accepted turns, with no opening, closing or loading between them, and memory and code touched by
   -- nobody else." That is what `after` says: each turn begins with the world that the one before it left. Refused turns may be among them.
 

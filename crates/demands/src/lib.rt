@@ -1,17 +1,24 @@
 // Every entry point once more: each function calls one entry and states its contract again, so that a contract that is weakened below breaks the
 // build here. Nobody calls them. What is promised of the definitions that they name is the record in specs/Demands. Below: every layer.
 use bench::Out;
+use instruction::Instruction;
 use operand::Operand;
 use segment::Routine;
 use segment::Segment;
 use segment::Verdict;
 use sound::Bench;
 ghost use mathlib.Core.Path.{_≡_};
-ghost use lib.ListN.{length};
+ghost use Prim.Native.Nat.{ℕ, _≤_, _<_};
+ghost use lib.ListN.{length, getD};
 ghost use Rattle.basis.specs.Checks.{isPassed};
+ghost use Rattle.operand.specs.Bytes.{byteAt};
 ghost use Rattle.operand.specs.Operand.{fetched, fetchedOf, formAt};
 ghost use Rattle.segment.specs.Head.{headOf, routineOf};
 ghost use Rattle.segment.specs.Judge.{judged, rulingOf};
+ghost use Rattle.pmachine.specs.Opcode.{opcode};
+ghost use Rattle.pmachine.specs.Decoding.{decode};
+ghost use Rattle.code.specs.Packed.{packed};
+ghost use Rattle.instruction.specs.Decodes.{decodingOf};
 ghost use Rattle.turning.specs.Turn.{turnRuling, outputOf};
 ghost use Rattle.sound.specs.Bench.{worldOf};
 ghost use Rattle.sound.specs.Sound.{soundB};
@@ -56,6 +63,21 @@ pub fn operand(seg: &[u8], at: usize, form: u8) -> Operand
     ensures { λ r. ⌜ fetchedOf r ≡ fetched (formAt form) (now (seg .entry)) at ⌝ }
 {
     reader::read_at(seg, at, form)
+}
+
+// What stands at a byte of the code is what the documented machine decodes there.
+pub fn instruction(seg: &[u8], at: usize) -> Instruction
+    ensures byte { λ r. ⌜ r .first ≡ byteAt (now (seg .entry)) at ⌝ }
+    ensures decodes { λ r. ⌜ (22 ≤ at → at < length (now (seg .entry)) → decodingOf r ≡ decode (now (seg .entry)) at) ⌝ }
+{
+    instruction::read(seg, at)
+}
+
+// "Every one of the 256 first bytes has its operand form, words taken and words given in one table"
+pub fn table() -> [u32; 256]
+    ensures { λ r. ⌜ ((b : ℕ) → b < 256 → getD r b 0 ≡ packed (opcode b)) ⌝ }
+{
+    code::table()
 }
 
 // ---- any bench, any memory, any store, any numbers

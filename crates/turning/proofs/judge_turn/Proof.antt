@@ -23,7 +23,7 @@ returns-2 c =
     let start = judged .before .before in
     c .refuse .ensures
     ∙ sym (turn-nine (now (start .args .seg)) (start .args .room) (sym (judged .judge .ensures) ∙ ap rulingOf (told .enum-told2 .given .1))
-      (λ e. c .before .if1 .taken (ap (λ (h : Segment). h .pool) (head .head .ensures) ∙ e)))
+    (λ e. c .before .if1 .taken (ap (λ (h : Segment). h .pool) (head .head .ensures) ∙ e)))
 
 returns-3 : tie.Need-returns-3
 returns-3 c =
@@ -33,7 +33,7 @@ returns-3 c =
     let start = judged .before .before in
     c .refuse2 .ensures
     ∙ sym (turn-ten (now (start .args .seg)) (start .args .room) (sym (judged .judge .ensures) ∙ ap rulingOf (told .enum-told2 .given .1))
-      (sym (ap (λ (h : Segment). h .pool) (head .head .ensures)) ∙ c .before .before .if1 .left) (c .before .if2 .taken))
+    (sym (ap (λ (h : Segment). h .pool) (head .head .ensures)) ∙ c .before .before .if1 .left) (c .before .if2 .taken))
 
 returns-4 : tie.Need-returns-4
 returns-4 c =
