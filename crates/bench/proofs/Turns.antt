@@ -29,9 +29,9 @@ pub runs : (store : List ℕ) (i k : ℕ) (w : World) → isSound store w ≡ tr
 unfolding turnOf
 runs store i k w h o l = passes _ w _ (h, (o, (l, tt)))
 
--- the steps that a turn reports, of which it was asked for at most 65,535
-pub few-done : (code m : List ℕ) (s base e k : ℕ) (c : Cpu) (r : Turned) (m′ : List ℕ) → RanTo code m s base e k c r m′ → k ≤ 65535 → r .done ≤ 65535
-few-done code m s base e k c r m′ t h = omega (arith, t .done, count-most k code (take s m) (stateOf (part base e m) c))
+-- the steps that a turn reports are at most those that it was asked for
+pub few-done : (code m : List ℕ) (s base e k : ℕ) (c : Cpu) (r : Turned) (m′ : List ℕ) → RanTo code m s base e k c r m′ → r .done ≤ k
+few-done code m s base e k c r m′ t = omega (arith, t .done, count-most k code (take s m) (stateOf (part base e m) c))
 
 module _ (store m : List ℕ) (b : Bench) (i : ℕ) (h : soundB b m store ≡ true) (l : length (b .sessions) ≡ 16) (u : getD (b .sessions) i noSession .used ≡ true) where
   good : Sound store (worldOf b m)

@@ -5,6 +5,7 @@ use native.Mathlib.Omega.{arith}
 use mathlib.Core.Path.{_≡_, sym, _∙_}
 use mathlib.Core.List.{List, [], _∷_}
 use mathlib.Core.Bool.{Bool, true, false}
+use borrow.Author.Tests.{lt-ltb, ltb-true}
 use mir.Val.{Fits}
 use mir.Syntax.{w16}
 use lib.Dec.{ltb}
@@ -98,6 +99,10 @@ module _ (w : List ℕ) (sp k : ℕ) (b : Bool) (e : b ≡ ltb (length w) (sp + 
 
   pub second : 2 ≤ k → sp + 1 < length w
   second l = omega (arith, enough w sp k b e q, l)
+
+-- too few for fewer words are too few for more
+pub short : (w : List ℕ) (sp k : ℕ) (b : Bool) → b ≡ ltb (length w) (sp + k) → b ≡ true → (n : ℕ) → k ≤ n → true ≡ ltb (length w) (sp + n)
+short w sp k b e q n l = sym (lt-ltb (length w) (sp + n) (omega (arith, ltb-true (length w) (sp + k) (sym e ∙ q), l)))
 
 -- the byte after an operand
 pub near : (o : Operand) (f : Form) (s : List ℕ) (at : ℕ) → fetchedOf o ≡ fetched f s at → (a n : ℕ) → o ≡ Got a n → Loaded s → n ≤ 65535

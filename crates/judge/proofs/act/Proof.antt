@@ -9,7 +9,7 @@ use Rattle.pmachine.specs.Meaning.{globals, up}
 use Rattle.pmachine.specs.Opcode.{opcode, rowIn, appendixB}
 use Rattle.plan.proofs.Decodes.{lawful-UB, lawful-SB, lawful-B, lawful-W, fetched-DB, here, at-globals, walked, strayed}
 use Rattle.plan.proofs.Arms.{sldc, sldl, sldo, gap-low, slla, sstl, gap-high, sind, keys, no-key, bad, moves, swaps, enough, lacks, con, pol, bin, un, div, dup, swp, nop, chk, sta, ind, lod, adr, sto, jmp, bra, cal, ret, bad-lod, bad-adr, bad-sto, bad-cal}
-use Rattle.judge.proofs.Ways.{unknown, bare, cut, one, cut-second, deep, both, some-room, m-in, sp-fits, m-fits, rec-fits, top, second, near, wide, slim}
+use Rattle.judge.proofs.Ways.{unknown, bare, cut, one, cut-second, deep, both, some-room, m-in, sp-fits, m-fits, rec-fits, top, second, short, near, wide, slim}
 use Rattle.judge.proofs.act.Statement.{statement}
 use Rattle.judge.proofs.act.Tie as tie
 
@@ -1049,7 +1049,7 @@ returns-53 c =
     let p = c .before .before .before .before .before .before .pre in
     let h = p .1 .0 .0 in let l = p .1 .0 .1 in let t = p .0 .1 in
     bare (a .seg .now) (a .shared .now) (a .region .now) (a .r) (a .at) (a .op) 3 1 _ (ap opcode (c .before .before .match .keys38))
-    (lacks _ _ _ _ h l (a .facts) t _ _ _ 3 1 _ (bad _ 3) (c .before .few19 .ensures) (c .if23 .taken))
+    (lacks _ _ _ _ h l (a .facts) t _ _ _ 3 1 _ (bad _ 3) (short (a .region .now) _ _ _ (c .before .few19 .ensures) (c .if23 .taken) 3 (omega arith)) refl)
 
 check-range-requires : tie.Need-check-range-requires
 check-range-requires c κs = let a = c .before .before .before .before .before .before .args in let p = c .before .before .before .before .before .before .pre in let h = p .1 .0 .0 in let l = p .1 .0 .1 in

@@ -21,7 +21,7 @@ add-end c =
 
 clear-part-requires : tie.Need-clear-part-requires
 clear-part-requires c κs =
-    let a = c .before .before .before .before .before .args in let l : length (a .t1 .sessions) ≡ 16 = laws.length-mapped _ (a .t1 .sessions) 16 (c .before .before .before .before .before .good .0 .1 .1 .1 .1 .1 .0 .1 .0 .1) in let f = turns.session (a .store .now) (a .memory .now) (a .t1) (a .i) (c .before .before .before .before .before .pre .0) l (c .before .before .before .before .before .pre .2) in (omega arith, f .inside)
+    let a = c .before .before .before .before .before .args in let l : length (a .t1 .sessions) ≡ 16 = laws.length-mapped _ (a .t1 .sessions) 16 (c .before .before .before .before .before .good .0 .1 .1 .1 .1 .1 .0 .1 .0 .1) in let f = turns.session (a .store .now) (a .memory .now) (a .t1) (a .i) (c .before .before .before .before .before .pre .0) l (c .before .before .before .before .before .pre .2) in (omega arith, omega (arith, f .inside))
 
 no-session-requires : tie.Need-no-session-requires
 no-session-requires c κs = search needs

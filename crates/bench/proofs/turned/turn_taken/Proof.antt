@@ -40,7 +40,10 @@ element-set-from-next : tie.Need-element-set-from-next
 element-set-from-next c = search needs
 
 steps-done-requires : tie.Need-steps-done-requires
-steps-done-requires c κs = law.few-done _ _ _ _ _ _ _ _ _ (c .before .before .before .run .ensures) (c .before .before .before .before .before .before .before .before .before .before .before .before .pre .3)
+steps-done-requires c κs =
+    let ran = c .before .before .before in
+    let start = ran .before .before .before .before .before .before .before .before .before in
+    omega (arith, law.few-done _ _ _ _ _ _ _ _ _ (ran .run .ensures), start .pre .3)
 
 same-length : tie.Need-same-length
 same-length c = search needs
