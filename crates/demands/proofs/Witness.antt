@@ -19,8 +19,8 @@ use Rattle.pmachine.specs.Run.{isReady, written, settled, step, run, stepsDone}
 use Rattle.session.specs.Session.{startOf, cpuOk, runOf, countOf}
 use Rattle.sound.specs.Bench.{World, worldOf}
 use Rattle.sound.specs.Sound.{limitsOk, slotOk, placed, apart, sessionOk, soundB, Sound}
-use Rattle.bench.specs.Answer.{answerRuling, ruled, refusing}
-use Rattle.bench.specs.Entries.{newOf, loadOf, lenOk, gapAt, gapOf, openOf, turnOf, closeOf}
+use Rattle.entry.specs.Answer.{answerRuling, ruled, refusing}
+use Rattle.entry.specs.Entries.{newOf, loadOf, lenOk, gapAt, gapOf, openOf, turnOf, closeOf}
 use Rattle.promises.specs.Requests.{loading, opening, turning}
 use Rattle.promises.proofs.Kept.{new-sound}
 use Rattle.promises.proofs.Requests.{stays-sound}

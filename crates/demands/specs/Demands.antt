@@ -23,11 +23,11 @@ use Rattle.interleave.specs.Interleave.{By, mine, oneByOne, Below}
 use Rattle.sound.specs.Below.{startOf, cpuOf, runOf, countOf}
 use Rattle.sound.specs.Bench.{noSession, codeOf, slotAt, World, worldOf, sessionAt, sharedOf, wordsOf, codeAt, stateAt, at-cpu, at-sessions}
 use Rattle.sound.specs.Sound.{limitsOk, Sound}
-use Rattle.bench.specs.declared.Out.{Out}
-use Rattle.bench.specs.declared.Answer.{Answer}
-use Rattle.bench.specs.declared.Answer.the-variants.{Done, Refused}
-use Rattle.bench.specs.Answer.{answerRuling, Result, resultOf}
-use Rattle.bench.specs.Entries.{newOf, loadedAt, lenOk, recordFor, openOf, fresh, ranOf, doneOf, turnOf, openAt, closeOf}
+use Rattle.entry.specs.declared.Out.{Out}
+use Rattle.entry.specs.declared.Answer.{Answer}
+use Rattle.entry.specs.declared.Answer.the-variants.{Done, Refused}
+use Rattle.entry.specs.Answer.{answerRuling, Result, resultOf}
+use Rattle.entry.specs.Entries.{newOf, loadedAt, lenOk, recordFor, openOf, fresh, ranOf, doneOf, turnOf, openAt, closeOf}
 use Rattle.promises.specs.Requests.{Request, asked, checksFor}
 use Rattle.promises.specs.Words.{InRegion, Free, GapFrom}
 use Rattle.isolation.specs.Isolation.{Turn, after, answersOf, stepsOf, reported, reportsOf}

@@ -9,10 +9,10 @@ use lib.ListN.{replicate, take, drop}
 use Rattle.machine.specs.declared.Kind.the-variants.{Ready, Finished, Faulted}
 use Rattle.sound.specs.Bench.{World, worldOf, sessionAt, wordsOf}
 use Rattle.sound.specs.Sound.{Sound}
-use Rattle.bench.specs.declared.Answer.{Answer}
-use Rattle.bench.specs.declared.Answer.the-variants.{Done, Refused}
-use Rattle.bench.specs.Answer.{Result}
-use Rattle.bench.specs.Entries.{newOf, loadOf, openOf, turnOf, closeOf}
+use Rattle.entry.specs.declared.Answer.{Answer}
+use Rattle.entry.specs.declared.Answer.the-variants.{Done, Refused}
+use Rattle.entry.specs.Answer.{Result}
+use Rattle.entry.specs.Entries.{newOf, loadOf, openOf, turnOf, closeOf}
 
 -- the document's small segment but for its last two bytes: SLDC 5 and SLDC 7, or others
 unfoldable pub segment : ℕ → ℕ → List ℕ

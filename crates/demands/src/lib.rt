@@ -22,8 +22,8 @@ ghost use Rattle.instruction.specs.Decodes.{decodingOf};
 ghost use Rattle.turning.specs.Turn.{turnRuling, outputOf};
 ghost use Rattle.sound.specs.Bench.{worldOf};
 ghost use Rattle.sound.specs.Sound.{soundB};
-ghost use Rattle.bench.specs.Answer.{resultOf};
-ghost use Rattle.bench.specs.Entries.{newOf, loadOf, openOf, turnOf, closeOf};
+ghost use Rattle.entry.specs.Answer.{resultOf};
+ghost use Rattle.entry.specs.Entries.{newOf, loadOf, openOf, turnOf, closeOf};
 
 // ---- any bytes: a segment
 

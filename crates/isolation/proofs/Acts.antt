@@ -17,11 +17,11 @@ use Rattle.sound.specs.Bench.{codeOf, slotOf, World, sessionAt, sharedOf, words
 use Rattle.sound.specs.Sound.{Sound}
 use Rattle.sound.proofs.Below.{run-keeps, run-length}
 use Rattle.sound.proofs.Facts.{Opened, opened, used-below}
-use Rattle.bench.specs.declared.Answer.{Answer}
-use Rattle.bench.specs.declared.Answer.the-variants.{Done, Refused}
+use Rattle.entry.specs.declared.Answer.{Answer}
+use Rattle.entry.specs.declared.Answer.the-variants.{Done, Refused}
 use Rattle.basis.specs.Checks.{passed, refused, ruling}
-use Rattle.bench.specs.Answer.{Result, done, refusedAt, ruled, refusing}
-use Rattle.bench.specs.Entries.{openAt, put, ranOf, doneOf, turnOf}
+use Rattle.entry.specs.Answer.{Result, done, refusedAt, ruled, refusing}
+use Rattle.entry.specs.Entries.{openAt, put, ranOf, doneOf, turnOf}
 use Rattle.isolation.proofs.Parts.{Public, Private, publicOf, privateOf, ownState, at-state, put-own, put-other, put-public, put-good}
 use Rattle.isolation.proofs.Whole.{same-world}
 

@@ -19,7 +19,7 @@ use Rattle.sound.specs.declared.Slot.{Slot}
 use Rattle.sound.specs.declared.Session.{Session}
 use Rattle.sound.proofs.Lists.{all-at, all-set}
 use Rattle.sound.proofs.Facts.{Opened, opened, used-in, apart-good, registers-good}
-use Rattle.bench.specs.Entries.{put}
+use Rattle.entry.specs.Entries.{put}
 
 -- word j is in no region of this session
 abbrev pub clear : ℕ → Session → Bool

@@ -12,10 +12,10 @@ use Rattle.sound.specs.Below.{SessionState, Cpu, stateOf, cpuOf, runOf, countOf
 use Rattle.sound.specs.Bench.{World, sessionAt, sharedOf, wordsOf, codeAt, stateAt, at-cpu}
 use Rattle.sound.specs.Sound.{Sound}
 use Rattle.sound.proofs.Below.{state-again, run-none, run-add, count-none, count-add}
-use Rattle.bench.specs.declared.Answer.{Answer}
-use Rattle.bench.specs.declared.Answer.the-variants.{Done, Refused}
-use Rattle.bench.specs.Answer.{valueOf}
-use Rattle.bench.specs.Entries.{ranOf, doneOf, turnOf}
+use Rattle.entry.specs.declared.Answer.{Answer}
+use Rattle.entry.specs.declared.Answer.the-variants.{Done, Refused}
+use Rattle.entry.specs.Answer.{valueOf}
+use Rattle.entry.specs.Entries.{ranOf, doneOf, turnOf}
 use Rattle.isolation.specs.Isolation.{Turn, after, answersOf, stepsOf, reported, reportsOf, OnItsOwn, Agree, Isolation}
 use Rattle.isolation.proofs.Parts.{Public, Private, publicOf, privateOf, ownState, at-state}
 use Rattle.isolation.proofs.Acts.{codeIn, nextOf, saysOf, next-runs, next-16, next-12, says-runs, says-16, says-12, own-state-is, ran-is, turns}

@@ -11,10 +11,10 @@ use Rattle.interleave.specs.Interleave.{By, mine, oneByOne, Below}
 use Rattle.sound.specs.Below.{SessionState, cpuOf, runOf, countOf}
 use Rattle.sound.specs.Bench.{World, sessionAt, sharedOf, wordsOf, codeAt, stateAt, at-cpu}
 use Rattle.sound.specs.Sound.{Sound}
-use Rattle.bench.specs.declared.Answer.{Answer}
-use Rattle.bench.specs.declared.Answer.the-variants.{Done, Refused}
-use Rattle.bench.specs.Answer.{valueOf}
-use Rattle.bench.specs.Entries.{ranOf, doneOf, turnOf}
+use Rattle.entry.specs.declared.Answer.{Answer}
+use Rattle.entry.specs.declared.Answer.the-variants.{Done, Refused}
+use Rattle.entry.specs.Answer.{valueOf}
+use Rattle.entry.specs.Entries.{ranOf, doneOf, turnOf}
 
 -- a turn: which session, and how many steps
 abbrev pub Turn : Type 0

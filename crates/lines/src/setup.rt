@@ -124,13 +124,7 @@ fn registers(se: Session, v: [u64; 8]) -> Session {
             routine: v[4] as usize,
         },
     };
-    Session {
-        used: se.used,
-        slot: se.slot,
-        base: se.base,
-        len: se.len,
-        cpu,
-    }
+    se.at(cpu)
 }
 
 // 0 is ready, 1 finished, and any other number faulted. Only a faulted session has a fault and a place.

@@ -14,16 +14,16 @@ use Rattle.sound.specs.Bench.{noSession, World, sessionAt}
 use Rattle.sound.specs.Sound.{Sound}
 use Rattle.sound.specs.declared.Session.{Session}
 use Rattle.sound.proofs.Facts.{opened, long, used-in, apart-good}
-use Rattle.bench.specs.declared.Answer.the-variants.{Done}
-use Rattle.bench.specs.Answer.{Result}
-use Rattle.bench.specs.Entries.{cleared, openAt, closeOf}
-use Rattle.bench.proofs.Closes.{closes}
+use Rattle.entry.specs.declared.Answer.the-variants.{Done}
+use Rattle.entry.specs.Answer.{Result}
+use Rattle.entry.specs.Entries.{cleared, openAt, closeChecks, closeOf}
+use Rattle.entry.proofs.Refusing.{passes}
 use Rattle.promises.specs.Words.{InRegion, Free, OnlyRecord, Closes}
 use Rattle.promises.proofs.Zeros.{zeroed, only}
 
 module _ (store : List ℕ) (w : World) (i : ℕ) (g : Sound store w) (u : sessionAt w i .used ≡ true) where
   after : World
-  after = cleared i noSession (sessionAt w i .base) (sessionAt w i .base + sessionAt w i .len) w
+  after = cleared i noSession (sessionAt w i .base) (sessionAt w i .len) w
 
   gone : sessionAt after i ≡ noSession
   unfolding after
@@ -68,7 +68,6 @@ module _ (store : List ℕ) (w : World) (i : ℕ) (g : Sound store w) (u : sessi
       }
 
 pub closed : (store : List ℕ) (w : World) (i : ℕ) → Sound store w → openAt w i ≡ true → (closeOf store i w .answer ≡ Done 0) × Closes w (closeOf store i w .world) i
-unfolding after
+unfolding after closeOf
 closed store w i g o =
-    let e = closes store i w (g .sound) o in
-    rw e (refl, is-closed store w i g (and-snd (leb i 15) (sessionAt w i .used) o))
+    rw (passes (closeChecks store i w) w _ (g .sound, (o, tt))) (refl, is-closed store w i g (and-snd (leb i 15) (sessionAt w i .used) o))

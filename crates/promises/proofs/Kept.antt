@@ -1,5 +1,5 @@
 -- A new bench is sound, and loading, opening and closing keep a sound bench sound. (Turns: isolation's law of one turn.)
--- Above: Promises. Below: sound's facts, bench's laws of a list of checks and of the lowest gap, the laws of the start.
+-- Above: Promises. Below: sound's facts, entry's laws of a list of checks, opening's of the lowest gap, the laws of the start.
 use mathlib.Core.Logic.{_↔_}
 use mathlib.Core.Path.{_≡_, refl, sym, ap, _∙_}
 use mathlib.Core.List.{List, [], _∷_}
@@ -25,24 +25,24 @@ use Rattle.sound.specs.declared.Bench.{Bench}
 use Rattle.sound.proofs.Below.{start-ok}
 use Rattle.sound.proofs.Lists.{all-at, all-imp, all-put, apart-put}
 use Rattle.sound.proofs.Facts.{Parts, put-together, parts, long, opened, slot-good}
-use Rattle.bench.specs.declared.Gap.{Gap}
-use Rattle.bench.specs.declared.Gap.the-variants.{At, Full}
-use Rattle.bench.specs.declared.Answer.the-variants.{Done, Refused}
-use Rattle.bench.specs.Answer.{answerRuling, Result, refusing}
-use Rattle.bench.specs.Entries.{emptyBench, newOf, loadedSlot, rangeOk, loadOf, lenOk, recordFor, clearOf, gapAt, gapOf, gapFor, found, placeIn, cleared, fresh, openOf, openAt, closeOf}
-use Rattle.bench.proofs.Refusing.{by-checks}
-use Rattle.bench.proofs.Lowest.{lowest-passes}
+use Rattle.entry.specs.declared.Gap.{Gap}
+use Rattle.entry.specs.declared.Gap.the-variants.{At, Full}
+use Rattle.entry.specs.declared.Answer.the-variants.{Done, Refused}
+use Rattle.entry.specs.Answer.{answerRuling, Result, refusing}
+use Rattle.entry.specs.Entries.{emptyBench, newOf, loadedSlot, rangeOk, loadOf, lenOk, recordFor, clearOf, gapAt, gapOf, gapFor, found, placeIn, cleared, fresh, openOf, openAt, closeOf}
+use Rattle.entry.proofs.Refusing.{by-checks}
+use Rattle.entry_open.proofs.Lowest.{lowest-passes}
 
 module _ (store : List ℕ) (w : World) (g : Sound store w) where
   -- record i replaced, and a part of memory cleared
-  replaced-good : (i : ℕ) (se : Session) (base e : ℕ) → base ≤ e → e ≤ length (w .mem) → placed (w .bench .n) (w .bench .s) se ≡ true → sessionOk store (w .bench .slots) se ≡ true → ((j : ℕ) → j < length (w .bench .sessions) → (j ≡ i → ⊥) → (apart se (sessionAt w j) ≡ true) × (apart (sessionAt w j) se ≡ true)) → Sound store (cleared i se base e w)
-  replaced-good i se base e o f pl ok lone =
+  replaced-good : (i : ℕ) (se : Session) (base len : ℕ) → base + len ≤ length (w .mem) → placed (w .bench .n) (w .bench .s) se ≡ true → sessionOk store (w .bench .slots) se ≡ true → ((j : ℕ) → j < length (w .bench .sessions) → (j ≡ i → ⊥) → (apart se (sessionAt w j) ≡ true) × (apart (sessionAt w j) se ≡ true)) → Sound store (cleared i se base len w)
+  replaced-good i se base len f pl ok lone =
       let p = parts store w g in
-      let l : length (splice base e (replicate (e - base) 0) (w .mem)) ≡ length (w .mem) = length-splice base e (w .mem) o f (replicate (e - base) 0) (length-replicate (e - base) 0) in
+      let l : length (splice base (base + len) (replicate len 0) (w .mem)) ≡ length (w .mem) = length-splice base (base + len) (w .mem) (omega arith) f (replicate len 0) (length-replicate len 0 ∙ omega arith) in
       record {
         sixteen = length-set (w .bench .sessions) i se ∙ g .sixteen;
         sound =
-            put-together (cleared i se base e w .bench) (cleared i se base e w .mem) store
+            put-together (cleared i se base len w .bench) (cleared i se base len w .mem) store
             (record {
               limits = p .limits;
               sized = rw l (p .sized);
@@ -69,7 +69,7 @@ module _ (store : List ℕ) (w : World) (g : Sound store w) where
   unfolding closeOf
   close-sound i =
       by-checks (λ r. Sound store (r .world)) _ w _ (λ _ _. g)
-      (λ p. replaced-good i noSession (sessionAt w i .base) (sessionAt w i .base + sessionAt w i .len) (omega arith)
+      (λ p. replaced-good i noSession (sessionAt w i .base) (sessionAt w i .len)
       (opened store w g i (and-snd (leb i 15) (sessionAt w i .used) (p .1 .0)) .inside)
       unused-placed unused-ok (λ j o n. unused-apart (sessionAt w j)))
 
@@ -95,13 +95,13 @@ module _ (store : List ℕ) (w : World) (g : Sound store w) where
         let y = every-holds _ lk in
         holds-every _ (o, (ld, (y .0, (y .1 .0, (start-ok (codeOf store (slotAt (w .bench .slots) slot)) len (slot-good store w g slot ld) (leb-true _ _ (y .0)) (leb-true _ _ (y .1 .1 .0)), tt)))))
 
-    opens-by : (i : ℕ) (r : Gap) → gapFor w len ≡ r → found r ≡ true → Sound store (cleared i (fresh slot (placeIn r) len c) (placeIn r) (placeIn r + len) w)
+    opens-by : (i : ℕ) (r : Gap) → gapFor w len ≡ r → found r ≡ true → Sound store (cleared i (fresh slot (placeIn r) len c) (placeIn r) len w)
     unfolding gapOf gapAt placed
     opens-by i Full e h = absurd (false≢true h)
     opens-by i (At a) e h =
         let x = every-holds _ (lowest-passes (gapAt (w .bench .sessions) (w .bench .s) (w .bench .n) len) (w .bench .n + 1) 0 a e) in
         let f : a + len ≤ length (w .mem) = rw (long store w g) (leb-true _ _ (x .1 .0)) in
-        replaced-good i (fresh slot a len c) a (a + len) (omega arith) f (holds-every _ (x .0, (x .1 .0, tt))) (fresh-ok a)
+        replaced-good i (fresh slot a len c) a len f (holds-every _ (x .0, (x .1 .0, tt))) (fresh-ok a)
         (λ j q n. fresh-apart a (sessionAt w j) (all-at (clearOf a len) (w .bench .sessions) j noSession (x .1 .1 .0) q))
 
   pub open-sound : (slot len : ℕ) → Sound store (openOf store slot len w .world)

@@ -1,5 +1,5 @@
 -- Opening: the lowest gap, the lowest record, and 15 exactly where there is no gap.
--- Above: Promises. Below: Zeros, bench's laws of the lowest gap, sound's facts.
+-- Above: Promises. Below: Zeros, opening's laws of the lowest gap, sound's facts.
 use mathlib.Core.Path.{_≡_, refl, sym, ap, _∙_}
 use mathlib.Core.List.{List, [], _∷_}
 use mathlib.Core.Logic.{_↔_}
@@ -18,15 +18,15 @@ use Rattle.sound.specs.Sound.{all, Sound}
 use Rattle.sound.specs.declared.Session.{Session}
 use Rattle.sound.proofs.Lists.{all-at, all-from}
 use Rattle.sound.proofs.Facts.{long, used-in, opened}
-use Rattle.bench.specs.declared.Gap.{Gap}
-use Rattle.bench.specs.declared.Gap.the-variants.{At, Full}
-use Rattle.bench.specs.declared.Answer.the-variants.{Done, Refused}
+use Rattle.entry.specs.declared.Gap.{Gap}
+use Rattle.entry.specs.declared.Gap.the-variants.{At, Full}
+use Rattle.entry.specs.declared.Answer.the-variants.{Done, Refused}
 use Rattle.basis.specs.Checks.{check, refused}
 use Rattle.basis.proofs.Checks.{Passing, never}
-use Rattle.bench.specs.Answer.{answerRuling, Result, refusing}
-use Rattle.bench.specs.Entries.{isSound, loadedAt, openChecks, lenOk, firstPlace, unused, recordFor, clearOf, lowest, gapAt, gapOf, gapFor, found, placeIn, cleared, fresh, opens, openOf}
-use Rattle.bench.proofs.Refusing.{passes, stops, by-checks}
-use Rattle.bench.proofs.Lowest.{first-at, lowest-passes}
+use Rattle.entry.specs.Answer.{answerRuling, Result, refusing}
+use Rattle.entry.specs.Entries.{isSound, loadedAt, openChecks, lenOk, firstPlace, unused, recordFor, clearOf, lowest, gapAt, gapOf, gapFor, found, placeIn, cleared, fresh, opens, openOf}
+use Rattle.entry.proofs.Refusing.{passes, stops, by-checks}
+use Rattle.entry_open.proofs.Lowest.{first-at, lowest-passes}
 use Rattle.promises.specs.Words.{InRegion, Free, GapFrom, Opens}
 use Rattle.promises.proofs.Zeros.{zeroed, only}
 
@@ -178,7 +178,7 @@ module _ (store : List ℕ) (w : World) (slot len : ℕ) (g : Sound store w) whe
         (λ n. none-found store w g len (number-by (gapFor w len) refl n) (len-some (codeOf store (slotAt (w .bench .slots) slot)) len lk), refused-by (gapFor w len) refl)
 
   -- what an opening that is done has done
-  done-by : Passing (openChecks store slot len w) → (r : Gap) → gapFor w len ≡ r → Opens store slot len w (cleared (recordFor w) (fresh slot (placeIn r) len (startOf (codeOf store (slotAt (w .bench .slots) slot)) len)) (placeIn r) (placeIn r + len) w) (recordFor w)
+  done-by : Passing (openChecks store slot len w) → (r : Gap) → gapFor w len ≡ r → Opens store slot len w (cleared (recordFor w) (fresh slot (placeIn r) len (startOf (codeOf store (slotAt (w .bench .slots) slot)) len)) (placeIn r) len w) (recordFor w)
   done-by p Full e = absurd (false≢true (sym (ap found e) ∙ p .1 .1 .1 .1 .0))
   done-by p (At a) e =
       let lo : recordFor w ≤ 15 = leb-true _ _ (p .1 .1 .1 .0) in

@@ -1,5 +1,5 @@
 -- What holds of every request alike: its answer is the ruling of its checks, a refusal changes nothing, soundness is kept, and a contract
--- allows one answer. Above: demands. Below: Kept, bench's laws of a list of checks; a turn keeps soundness by the registers' ranges.
+-- allows one answer. Above: demands. Below: Kept, entry's laws of a list of checks; a turn keeps soundness by the registers' ranges.
 use mathlib.Core.Path.{_≡_, refl, sym, ap, _∙_}
 use mathlib.Core.List.{List}
 use mathlib.Core.Bool.{true, _&&_}
@@ -16,10 +16,10 @@ use Rattle.sound.specs.Bench.{World, sessionAt, sharedOf, codeAt, stateAt}
 use Rattle.sound.specs.Sound.{Sound}
 use Rattle.sound.proofs.Below.{run-keeps, run-length}
 use Rattle.sound.proofs.Facts.{opened, registers-good}
-use Rattle.bench.specs.declared.Out.{Out}
-use Rattle.bench.specs.Answer.{answerRuling, Result, resultOf, done, ruled, refusing}
-use Rattle.bench.specs.Entries.{loadOf, openOf, ranOf, put, turnOf, closeOf}
-use Rattle.bench.proofs.Refusing.{by-checks}
+use Rattle.entry.specs.declared.Out.{Out}
+use Rattle.entry.specs.Answer.{answerRuling, Result, resultOf, done, ruled, refusing}
+use Rattle.entry.specs.Entries.{loadOf, openOf, ranOf, put, turnOf, closeOf}
+use Rattle.entry.proofs.Refusing.{by-checks}
 use Rattle.promises.specs.Requests.{Request, loading, opening, turning, closing, asked, checksFor}
 use Rattle.promises.proofs.Kept.{load-sound, open-sound, close-sound}
 

@@ -4,8 +4,8 @@ use mathlib.Core.List.{List}
 use Prim.Native.Nat.{ℕ}
 use Rattle.basis.specs.Checks.{Check}
 use Rattle.sound.specs.Bench.{World}
-use Rattle.bench.specs.Answer.{Result}
-use Rattle.bench.specs.Entries.{loadChecks, loadOf, openChecks, openOf, turnChecks, turnOf, closeChecks, closeOf}
+use Rattle.entry.specs.Answer.{Result}
+use Rattle.entry.specs.Entries.{loadChecks, loadOf, openChecks, openOf, turnChecks, turnOf, closeChecks, closeOf}
 
 pub data Request : Type 0 where
   loading : ℕ → ℕ → ℕ → Request  -- slot, start, length

@@ -8,7 +8,7 @@ use Prim.Native.Nat.{ℕ, _+_, _≤_, _<_}
 use lib.ListN.{length, getD}
 use Rattle.sound.specs.Below.{startOf}
 use Rattle.sound.specs.Bench.{noSession, codeOf, slotAt, World, sessionAt, at-sessions}
-use Rattle.bench.specs.Entries.{fresh}
+use Rattle.entry.specs.Entries.{fresh}
 
 -- word j is in the region of session i
 pub record InRegion (w : World) (i j : ℕ) : Type 0 where

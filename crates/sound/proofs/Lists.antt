@@ -1,11 +1,11 @@
 -- Lists whose every element passes, and lists in which all are apart: one element looked at, and one replaced.
 -- Above: Facts, bench, isolation. Below: `all` and `allApart` of specs/Sound.
 use mathlib.Core.Path.{_≡_, refl, sym, ap, _∙_}
-use mathlib.Core.List.{List, [], _∷_}
+use mathlib.Core.List.{List, [], _∷_, map}
 use mathlib.Core.Bool.{Bool, true, false, _&&_, false≢true, and-false}
 use Prim.Native.Nat.{ℕ, zero, suc, _<_}
 use native.Mathlib.Omega.{arith}
-use lib.ListN.{length, getD, set}
+use lib.ListN.{length, length-map, getD, set, List·getD-eq-default}
 use Rattle.basis.proofs.Bools.{and-fst, and-snd, and-both}
 use Rattle.sound.specs.Below.{Cpu}
 use Rattle.sound.specs.Bench.{at-cpu}
@@ -53,6 +53,13 @@ pub all-imp : {A : Type 0} (p q : A → Bool) (l : List A) → ((x : A) → p x 
 all-imp p q [] f h = refl
 all-imp p q (x ∷ l) f h =
     and-both (q x) (all q l) (f x (and-fst (p x) (all p l) h)) (all-imp p q l f (and-snd (p x) (all p l) h))
+
+-- the length of a list that a program holds, from that of its rendering; and what stands past its end
+pub length-mapped : {X Y : Type 0} (f : X → Y) (l : List X) (n : ℕ) → length (map f l) ≡ n → length l ≡ n
+length-mapped f l n p = sym (length-map l f) ∙ p
+
+pub past-end : {X Y : Type 0} (f : X → Y) (l : List X) (i : ℕ) (d : X) → length (map f l) ≡ 16 → 15 < i → d ≡ getD l i d
+past-end f l i d p h = sym (List·getD-eq-default l d {n = i} (rw (length-mapped f l 16 p) (omega arith)))
 
 -- two different records of a list in which all are apart
 pub apart-at : (l : List Session) (i j : ℕ) (d : Session) → allApart l ≡ true → i < j → j < length l → apart (getD l i d) (getD l j d) ≡ true

@@ -1,7 +1,7 @@
 -- What the bench holds, in the words of document 01. The types Slot, Session and Bench are those of the program.
 -- Above: Sound, and the entries of crate bench. Below: specs/Below for a session's state.
 use mathlib.Core.List.{List}
-use mathlib.Core.Bool.{false}
+use mathlib.Core.Bool.{true, false}
 use Prim.Native.Nat.{ℕ, _+_}
 use lib.ListN.{getD, take, drop}
 use Rattle.basis.specs.Part.{part}
@@ -54,6 +54,10 @@ codeAt store w i = codeOf store (slotOf (w .bench .slots) (sessionAt w i))
 
 abbrev pub stateAt : World → ℕ → SessionState
 stateAt w i = stateOf (wordsOf w (sessionAt w i)) (sessionAt w i .cpu)
+
+-- the record of a session that was opened on a slot, with the len words from base on, at these registers
+abbrev pub fresh : ℕ → ℕ → ℕ → Cpu → Session
+fresh slot base len c = record { used = true; slot = slot; base = base; len = len; cpu = c }
 
 -- a session's record at other registers: slot and region stay
 abbrev pub at-cpu : Session → Cpu → Session

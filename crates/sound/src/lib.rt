@@ -1,7 +1,8 @@
 // What a bench holds, by value, and the test whether it is sound for the memory and the store that the caller lends.
 // Above: bench, whose every entry begins with this test. Below: session (registers in their ranges) and segment (checks 1 to 8).
 ghost use mathlib.Core.Path.{_≡_};
-ghost use Rattle.sound.specs.Bench.{noSlot, noSession};
+ghost use lib.ListN.{getD};
+ghost use Rattle.sound.specs.Bench.{noSlot, noSession, slotAt, fresh, at-cpu};
 ghost use Rattle.sound.specs.Sound.{limitsOk, soundB};
 use machine::Cpu;
 use session::no_cpu;
@@ -26,6 +27,30 @@ pub struct Session {
     pub base: usize,
     pub len: usize,
     pub cpu: Cpu,
+}
+
+impl Session {
+    // The record of a session that was opened on a slot, with the len words from base on, at these registers.
+    pub fn fresh(slot: usize, base: usize, len: usize, cpu: Cpu) -> Self
+        ensures { λ r. ⌜ r ≡ fresh slot base len cpu ⌝ }
+    {
+        let mut out = no_session();
+        out.used = true;
+        out.slot = slot;
+        out.base = base;
+        out.len = len;
+        out.cpu = cpu;
+        out
+    }
+
+    // The record at other registers: slot and region stay.
+    pub fn at(self, cpu: Cpu) -> Self
+        ensures { λ r. ⌜ r ≡ at-cpu self cpu ⌝ }
+    {
+        let mut out = self;
+        out.cpu = cpu;
+        out
+    }
 }
 
 // For a memory of n words, the first s of them shared.
@@ -58,6 +83,26 @@ pub fn no_session() -> Session
         len: 0,
         cpu: no_cpu(),
     }
+}
+
+// Slot i; past the last, one that is not loaded.
+pub fn slot_at(b: Bench, i: usize) -> Slot
+    ensures { λ r. ⌜ r ≡ slotAt (b .slots) i ⌝ }
+{
+    if 15 < i {
+        return no_slot();
+    }
+    b.slots[i]
+}
+
+// Session record i; past the last, one that is not used.
+pub fn session_at(b: Bench, i: usize) -> Session
+    ensures { λ r. ⌜ r ≡ getD (b .sessions) i noSession ⌝ }
+{
+    if 15 < i {
+        return no_session();
+    }
+    b.sessions[i]
 }
 
 // Whether n words, s of them shared, keep their limits.

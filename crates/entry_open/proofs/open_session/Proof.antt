@@ -1,0 +1,161 @@
+-- `entry_open::open_session` meets its contract.
+use borrow.Author.Needs.{needs}
+use borrow.Author.Tests.{le-leb, lt-leb, not-true, not-false}
+use mathlib.Core.Bool.{Bool}
+use mathlib.Core.List.{List, _∷_, _++_}
+use mathlib.Core.Path.{_≡_, sym, ap, _∙_}
+use native.Mathlib.Omega.{arith}
+use Prim.Native.Nat.{ℕ, _≤_}
+use Rattle.basis.specs.Checks.{Check, check, Ruling, ruling}
+use Rattle.sound.specs.declared.Session.{Session}
+use Rattle.sound.specs.Below.{Cpu, startOf}
+use Rattle.sound.specs.Bench.{World, worldOf, slotAt, codeOf, fresh}
+use Rattle.entry.specs.declared.Gap.the-variants.{At}
+use Rattle.entry.specs.Answer.{done}
+use Rattle.entry.specs.Entries.{begins, loadedAt, lenOk, recordFor, gapFor, found, placeIn, cleared, opens, openOf}
+use Rattle.entry.proofs.Refusing.{none-left, passed-first, fails, holds, refuses, accepts}
+use Rattle.entry.proofs.Starts.{Begun, Guarded, slot-guarded}
+use Rattle.entry_open.proofs.Lowest.{found-inside}
+use Rattle.entry_open.proofs.open_session.Statement.{statement}
+use Rattle.entry_open.proofs.open_session.Tie as tie
+
+opened : (w : World) (slot len i a : ℕ) (code code′ : List ℕ) (c : Cpu) (se : Session) (x : World)
+    → x ≡ cleared i se a len w
+    → se ≡ fresh slot a len c
+    → c ≡ startOf code len
+    → code ≡ code′
+    → i ≡ recordFor w
+    → gapFor w len ≡ At a
+    → done i x ≡ opens slot len (startOf code′ len) (recordFor w) (placeIn (gapFor w len)) w
+opened w slot len i a code code′ c se x ex es ec eo ei eg = rw (ex, es, ec, eo, ei, eg)
+
+-- ---- where the guard answered, of the slot that was read; and where it passed
+
+abbrev start : tie.After-guard → tie.Start
+start c = c .before .before .before .before .before
+
+abbrev world : tie.After-guard → World
+world c = worldOf (start c .args .b) (start c .args .memory .now)
+
+abbrev loaded : tie.After-guard → Bool
+loaded c = loadedAt (world c) (start c .args .slot)
+
+guarded-at : (c : tie.After-guard) → Guarded (start c .args .store .now) (world c) (loaded c) (c .guard .result) (Begun (start c .args .store .now) (world c) (loaded c))
+guarded-at c = slot-guarded _ _ _ _ _ (start c .good .0 .1 .1 .1 .1 .0 .1 .0 .1) _ (c .before .before .slot-at .ensures) (c .guard .ensures)
+
+abbrev guard-at : tie.After-code-of → tie.After-guard
+guard-at c = c .before .before .before
+
+begun-at : (c : tie.After-code-of) → let g = guard-at c in Begun (start g .args .store .now) (world g) (loaded g)
+begun-at c = guarded-at (guard-at c) .goes (c .before .enum-told .given .1)
+
+-- ---- 13 of the slot's code, and the record that 14 found
+
+abbrev code : tie.After-guard → List ℕ
+code c = codeOf (start c .args .store .now) (slotAt (world c .bench .slots) (start c .args .slot))
+
+coded-at : (c : tie.After-code-of) → c .code-of .result .now ≡ code (guard-at c)
+coded-at c = c .code-of .ensures ∙ ap (codeOf _) (guard-at c .before .before .slot-at .ensures)
+
+abbrev lenPasses : tie.After-len-ok → Bool
+lenPasses c = let g = guard-at (c .before) in lenOk (code g) (start g .args .len)
+
+len-is : (c : tie.After-len-ok) → c .len-ok .result ≡ lenPasses c
+len-is c = c .len-ok .ensures ∙ ap (λ (x : List ℕ). lenOk x (start (guard-at (c .before)) .args .len)) (coded-at (c .before))
+
+past-13 : (c : tie.Else1) (ds : List Check) (r : Ruling) → ruling ds ≡ r → let g = guard-at (c .before .before) in
+    ruling (begins (start g .args .store .now) (world g) (loaded g) ++ (check 13 0 (lenPasses (c .before)) ∷ ds)) ≡ r
+past-13 c ds r e = passed-first _ _ _ (begun-at (c .before .before) .passes) (holds _ _ _ _ _ (sym (len-is (c .before)) ∙ not-false _ (c .if1 .left)) e)
+
+abbrev sized : tie.Else2 → tie.Else1
+sized c = c .before .before .before
+
+left-at : (c : tie.Else2) → recordFor (world (guard-at (sized c .before .before))) ≤ 15
+left-at c = rw (c .before .first-unused .ensures) at (c .if2 .left)
+
+-- ---- what the code asks
+
+returns : tie.Need-returns
+unfolding openOf
+returns c =
+    let told = c .before .before in
+    refuses _ _ _ _ _ (guarded-at (told .before .before) .refuses _ _ _ (told .v .given .1)) (c .refuse .ensures _)
+
+returns-2 : tie.Need-returns-2
+unfolding openOf
+returns-2 c =
+    let len = c .before .before in
+    refuses _ _ _ _ _ (passed-first _ _ _ (begun-at (len .before) .passes) (fails _ _ _ _ (sym (len-is len) ∙ not-true _ (c .before .if1 .taken))))
+    (c .refuse2 .ensures _)
+
+returns-3 : tie.Need-returns-3
+unfolding openOf
+returns-3 c =
+    let searched = c .before .before in
+    refuses _ _ _ _ _ (past-13 (searched .before .before) _ _ (fails _ _ _ _ (lt-leb _ 15 (rw (searched .first-unused .ensures) at (c .before .if2 .taken)))))
+    (c .refuse3 .ensures _)
+
+gap-for-requires : tie.Need-gap-for-requires
+gap-for-requires c κs = let g = begun-at (sized c .before .before) in (g .limits .words, g .places)
+
+clear-requires : tie.Need-clear-requires
+clear-requires c κs =
+    let told = c .before .before .before .before in
+    let gapped = told .before .before in
+    let g = begun-at (sized (gapped .before) .before .before) in
+    let f = found-inside _ _ _ _ _ (sym (gapped .gap-for .ensures) ∙ told .gap .given .1) in
+    (omega arith, omega (arith, g .long))
+
+returns-4 : tie.Need-returns-4
+unfolding openOf
+returns-4 c =
+    let clearing = c .before .before in
+    let made = clearing .before .before in
+    let told = made .before .before .before in
+    let gapped = told .before .before in
+    let left = gapped .before in
+    let gap = sym (gapped .gap-for .ensures) ∙ told .gap .given .1 in
+    accepts _ _ _ (past-13 (sized left) _ _ (holds _ _ _ _ _ (le-leb _ 15 (left-at left)) (holds _ _ _ _ _ (ap found gap) none-left)))
+    (opened _ _ _ _ _ _ _ _ _ _ (clearing .clear .ensures) (made .fresh .ensures) (made .before .start-cpu .ensures) (coded-at (sized left .before .before))
+      (left .before .first-unused .ensures) gap)
+
+returns-5 : tie.Need-returns-5
+unfolding openOf
+returns-5 c =
+    let gapped = c .before .before .before in
+    let left = gapped .before in
+    let full = sym (gapped .gap-for .ensures) ∙ c .before .enum-told2 .given .1 in
+    refuses _ _ _ _ _ (past-13 (sized left) _ _ (holds _ _ _ _ _ (le-leb _ 15 (left-at left)) (fails _ _ _ _ (ap found full)))) (c .refuse4 .ensures _)
+
+pub open-session-spec : {M : Type 1} → statement M
+open-session-spec =
+    tie.close
+    (tie.spec
+    (λ c κs. search needs)
+    (λ c κs. search needs)
+    (λ c. search needs)
+    (λ c κs. search needs)
+    (λ c. search needs)
+    returns
+    (λ c. search needs)
+    (λ c κs. search needs)
+    (λ c κs. search needs)
+    (λ c κs. search needs)
+    (λ c. search needs)
+    returns-2
+    (λ c κs. search needs)
+    (λ c κs. search needs)
+    (λ c. search needs)
+    returns-3
+    gap-for-requires
+    (λ c. search needs)
+    (λ c κs. search needs)
+    (λ c κs. search needs)
+    clear-requires
+    (λ c. search needs)
+    (λ c. search needs)
+    (λ c κs. search needs)
+    (λ c. search needs)
+    returns-4
+    (λ c. search needs)
+    returns-5)

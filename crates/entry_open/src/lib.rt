@@ -1,0 +1,69 @@
+// Opening a session: the lowest unused record, the lowest gap that fits, every word of it zero.
+// Above: `bench`, by which programs call it. Below: gaps, entry (the guard, and words set to zero), session for the start, sound.
+ghost use mathlib.Core.Path.{_≡_};
+ghost use Rattle.sound.specs.Bench.{worldOf};
+ghost use Rattle.entry.specs.Answer.{resultOf};
+ghost use Rattle.entry.specs.Entries.{lenOk, openOf};
+use entry::Answer;
+use entry::Gap;
+use entry::Out;
+use entry::clear;
+use entry::guard;
+use entry::refuse;
+use segment::Verdict;
+use session::start_cpu;
+use sound::Bench;
+use sound::Session;
+use sound::slot_at;
+use tests::at_most;
+use tests::both;
+use tests::code_of;
+
+mod gaps;
+
+pub use gaps::first_unused;
+pub use gaps::gap_for;
+
+// L in 16..32,768, and at least 6+G.
+fn len_ok(code: &[u8], len: usize) -> bool
+    ensures { λ r. ⌜ r ≡ lenOk (now (code .entry)) len ⌝ }
+{
+    let first = segment::routine_of(code, 1);
+    let low = 6 + first.datasize as usize;
+    both(
+        at_most(16, len),
+        both(at_most(len, 32768), at_most(low, len)),
+    )
+}
+
+// A session of len words on a slot. Refusals 11, 12, 13, 14, 15.
+pub fn open_session(b: Bench, memory: &mut [u16], store: &[u8], slot: usize, len: usize) -> Out
+    ensures { λ r. ⌜ resultOf r (now (memory .exit)) ≡ openOf (now (store .entry)) slot len (worldOf b (now (memory .entry))) ⌝ }
+{
+    let sl = slot_at(b, slot);
+    let v = guard(b, memory, store, sl.loaded);
+    if let Verdict::Refused { number, place } = v {
+        return refuse(b, number, place);
+    }
+    let code = code_of(store, sl.start, sl.len);
+    if !len_ok(code, len) {
+        return refuse(b, 13, 0);
+    }
+    let sessions = b.sessions;
+    let i = first_unused(sessions);
+    if 15 < i {
+        return refuse(b, 14, 0);
+    }
+    let gap = gap_for(sessions, b.s, b.n, len);
+    match gap {
+        Gap::At(a) => {
+            let se = Session::fresh(slot, a, len, start_cpu(code, len));
+            let out = clear(b, memory, i, se, a, len);
+            Out {
+                answer: Answer::Done(i as u32),
+                bench: out,
+            }
+        }
+        Gap::Full => refuse(b, 15, 0),
+    }
+}
