@@ -1,5 +1,5 @@
 -- What each entry answers and leaves, on every input: new bench, loading, opening, a turn, closing. Each with its refusals in their order.
--- Above: Promises, isolation. Below: Answer, and sound's definitions.
+-- Above: a crate for each entry, promises, isolation. Below: Answer, and sound's definitions.
 use mathlib.Core.List.{List, [], _∷_, _++_}
 use mathlib.Core.Bool.{Bool, true, false, cond, _&&_, _||_, not}
 use Prim.Native.Nat.{ℕ, zero, suc, _+_, _%_}
@@ -44,12 +44,12 @@ begins store w named = check 11 0 (isSound store w) ∷ check 12 0 named ∷ []
 
 -- ---- one writing: record i becomes se, and the len words from base on these
 
-abbrev pub written : ℕ → Session → ℕ → ℕ → List ℕ → World → World
-written i se base len words w =
+abbrev pub replaced : ℕ → Session → ℕ → ℕ → List ℕ → World → World
+replaced i se base len words w =
     worldOf (at-sessions (w .bench) (set (w .bench .sessions) i se)) (splice base (base + len) words (w .mem))
 
 abbrev pub cleared : ℕ → Session → ℕ → ℕ → World → World
-cleared i se base len w = written i se base len (replicate len 0) w
+cleared i se base len w = replaced i se base len (replicate len 0) w
 
 -- ---- a new bench: 17
 
@@ -163,7 +163,7 @@ doneOf store i k w = countOf k (codeAt store w i) (sharedOf w) (stateAt w i)
 -- session i in this state: its registers and kind in its record, its words in its region, and nothing else
 abbrev pub put : ℕ → SessionState → World → World
 put i st w =
-    written i (at-cpu (sessionAt w i) (cpuOf st)) (sessionAt w i .base) (sessionAt w i .len) (st .words) w
+    replaced i (at-cpu (sessionAt w i) (cpuOf st)) (sessionAt w i .base) (sessionAt w i .len) (st .words) w
 
 -- 16: "a turn of more than 65,535 steps"
 abbrev pub turnChecks : List ℕ → ℕ → ℕ → World → List Check
