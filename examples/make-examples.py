@@ -1,7 +1,7 @@
 #!/usr/bin/env python3
 # Makes the example files beside it (small.seg is document 01's and is not made): two farms' reports on a shared archive, the two reports
 # of the spring accident, a mean that divides by the number of readings, and a segment that is refused.
-# `make-examples.py --demo` prints the bytes that stand as constants in crates/alone/src/farms.rt.
+# `make-examples.py --demo` prints the bytes that stand as constants in crates/pond_run/src/farms.rt.
 import os
 import sys
 

@@ -1,5 +1,5 @@
 // The first check that fails, in document 01's order: 1 and 2 of the first byte, its operands, 3, what its meaning asks (9, 8, 5, 6, 7, 10),
-// and 4. Nothing here prints. Above it: `explain`. Below it: places, flow and stack, a check each.
+// and 4. Nothing here prints. Above it: `pond_why`. Below it: places, flow and stack, a check each.
 use crate::flow;
 use crate::meaning;
 use crate::meaning::Does;

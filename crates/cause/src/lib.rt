@@ -1,5 +1,5 @@
 // Why a step faults: the first check of document 01's order that fails on a session's numbers, with what it judged. Nothing here prints.
-// Above it: `explain`, which puts it into words. Below it: `instruction`, which takes the instruction apart, and `segment`.
+// Above it: `pond_why`, which puts it into words. Below it: `instruction`, which takes the instruction apart, and `segment`.
 //
 // A step that faults changes no word and no register, so the check that failed fails again on the same numbers.
 mod flow;

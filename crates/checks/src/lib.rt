@@ -26,7 +26,7 @@ fn checked(ok: bool, number: u8, place: u16, later: Verdict) -> Verdict
 fn shape_ok(seg: &[u8]) -> bool
     ensures { λ r. ⌜ r ≡ shapeOk (now (seg .entry)) ⌝ }
 {
-    tests::both(seg.len() % 2 == 0, tests::within(16, 32768, seg.len() / 2))
+    bounds::both(seg.len() % 2 == 0, bounds::within(16, 32768, seg.len() / 2))
 }
 
 fn sex_ok(seg: &[u8]) -> bool
@@ -34,9 +34,9 @@ fn sex_ok(seg: &[u8]) -> bool
 {
     let a = byte_at(seg, Segment::SEX_BYTE);
     let b = byte_at(seg, Segment::SEX_BYTE + 1);
-    tests::either(
-        tests::both(a == Segment::ONE, b == Segment::NIL),
-        tests::both(a == Segment::NIL, b == Segment::ONE),
+    bounds::either(
+        bounds::both(a == Segment::ONE, b == Segment::NIL),
+        bounds::both(a == Segment::NIL, b == Segment::ONE),
     )
 }
 
@@ -44,7 +44,7 @@ fn sex_ok(seg: &[u8]) -> bool
 fn pool_ok(w: usize, p: u16) -> bool
     ensures { λ r. ⌜ r ≡ (eqb p 0 || inside 11 w p) ⌝ }
 {
-    tests::either(p == 0, tests::within(Segment::BODY, w, p as usize))
+    bounds::either(p == 0, bounds::within(Segment::BODY, w, p as usize))
 }
 
 // Of W, the dictionary pointer and the number of routines.
@@ -52,9 +52,9 @@ fn dict_ok(w: usize, d: u16, n: u16) -> bool
     ensures { λ r. ⌜ r ≡ (inside 11 w d && (inside 1 256 n && ltb (d + n) w)) ⌝ }
 {
     let end = (d as usize) + (n as usize);
-    tests::both(
-        tests::within(Segment::BODY, w, d as usize),
-        tests::both(tests::within(1, 256, n as usize), end < w),
+    bounds::both(
+        bounds::within(Segment::BODY, w, d as usize),
+        bounds::both(bounds::within(1, 256, n as usize), end < w),
     )
 }
 
@@ -78,13 +78,13 @@ fn judge_routine(seg: &[u8], k: u16) -> Verdict
     let w = seg.len() / 2;
     let e = r.entry as usize;
     let v8 = checked(
-        tests::within(22, 2 * w, r.exitic as usize),
+        bounds::within(22, 2 * w, r.exitic as usize),
         8,
         k,
         Verdict::Accepted,
     );
     let v7 = checked(r.datasize < 32768, 7, k, v8);
-    checked(tests::both(12 <= e, e + 1 < w), 6, k, v7)
+    checked(bounds::both(12 <= e, e + 1 < w), 6, k, v7)
 }
 
 // Whether routine k passes checks 6 to 8, of what is read once a segment: the sex, W and D. The routine's
@@ -103,7 +103,7 @@ fn routine_passes(seg: &[u8], sex: bool, w: usize, d: usize, k: usize) -> bool
     if 32768 <= word_in(seg, sex, e) {
         return false;
     }
-    tests::within(22, 2 * w, word_in(seg, sex, e - 1) as usize)
+    bounds::within(22, 2 * w, word_in(seg, sex, e - 1) as usize)
 }
 
 // Checks 6 to 8 of every routine, the lowest number first, of a segment that passed checks 1 to 5.

@@ -17,7 +17,7 @@ ghost use Rattle.segment.specs.Head.{headOf, routineOf};
 ghost use Rattle.segment.specs.Judge.{judged, rulingOf};
 ghost use Rattle.pmachine.specs.Opcode.{opcode};
 ghost use Rattle.pmachine.specs.Decoding.{decode};
-ghost use Rattle.code.specs.Packed.{packed};
+ghost use Rattle.opcodes.specs.Packed.{packed};
 ghost use Rattle.instruction.specs.Decodes.{decodingOf};
 ghost use Rattle.turning.specs.Turn.{turnRuling, outputOf};
 ghost use Rattle.sound.specs.Bench.{worldOf};
@@ -77,7 +77,7 @@ pub fn instruction(seg: &[u8], at: usize) -> Instruction
 pub fn table() -> [u32; 256]
     ensures { λ r. ⌜ ((b : ℕ) → b < 256 → getD r b 0 ≡ packed (opcode b)) ⌝ }
 {
-    code::table()
+    opcodes::table()
 }
 
 // ---- any bench, any memory, any store, any numbers

@@ -142,9 +142,9 @@ abbrev pub openChecks : List ℕ → ℕ → ℕ → World → List Check
 openChecks store slot len w =
     begins store w (loadedAt w slot)
     ++ (check 13 0 (lenOk (codeOf store (slotAt (w .bench .slots) slot)) len)
-      ∷ check 14 0 (leb (recordFor w) 15)
-      ∷ check 15 0 (found (gapFor w len))
-      ∷ [])
+    ∷ check 14 0 (leb (recordFor w) 15)
+    ∷ check 15 0 (found (gapFor w len))
+    ∷ [])
 
 unfoldable pub openOf : List ℕ → ℕ → ℕ → World → Result
 openOf store slot len w =

@@ -29,14 +29,7 @@ pub fn with_session(b: Bench, i: usize, se: Session) -> Bench
 }
 
 // Session record i replaced, and the len words from base on zero.
-pub fn clear(
-    b: Bench,
-    memory: &mut [u16],
-    i: usize,
-    se: Session,
-    base: usize,
-    len: usize,
-) -> Bench
+pub fn clear(b: Bench, memory: &mut [u16], i: usize, se: Session, base: usize, len: usize) -> Bench
     requires { ⌜ (i ≤ 15) × (base + len ≤ length (now memory)) ⌝ }
     ensures { λ r. ⌜ worldOf r (now (memory .exit)) ≡ cleared i se base len (worldOf b (now (memory .entry))) ⌝ }
 {

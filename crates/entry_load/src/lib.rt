@@ -6,6 +6,9 @@ ghost use lib.ListN.{set};
 ghost use Rattle.sound.specs.Bench.{worldOf, at-slots};
 ghost use Rattle.entry.specs.Answer.{resultOf};
 ghost use Rattle.entry.specs.Entries.{rangeOk, loadedSlot, loadOf};
+use bounds::both;
+use bounds::code_of;
+use bounds::ends_by;
 use entry::Answer;
 use entry::Out;
 use entry::guard;
@@ -14,9 +17,6 @@ use entry::refuse;
 use segment::Verdict;
 use sound::Bench;
 use sound::Slot;
-use tests::both;
-use tests::code_of;
-use tests::ends_by;
 
 fn range_ok(store: &[u8], start: usize, len: usize) -> bool
     ensures { λ r. ⌜ r ≡ rangeOk (now (store .entry)) start len ⌝ }

@@ -5,10 +5,10 @@ ghost use mathlib.Core.Bool.{true};
 ghost use Prim.Native.Nat.{_≤_};
 ghost use Rattle.sound.specs.Sound.{all, placed};
 ghost use Rattle.entry.specs.Entries.{unused, firstPlace, clearOf, hits, gapOf};
+use bounds::either;
+use bounds::ends_by;
 use entry::Gap;
 use sound::Session;
-use tests::either;
-use tests::ends_by;
 
 // The lowest record that is not used, or 16.
 pub fn first_unused(sessions: [Session; 16]) -> usize

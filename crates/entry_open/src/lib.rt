@@ -4,6 +4,9 @@ ghost use mathlib.Core.Path.{_≡_};
 ghost use Rattle.sound.specs.Bench.{worldOf};
 ghost use Rattle.entry.specs.Answer.{resultOf};
 ghost use Rattle.entry.specs.Entries.{lenOk, openOf};
+use bounds::at_most;
+use bounds::both;
+use bounds::code_of;
 use entry::Answer;
 use entry::Gap;
 use entry::Out;
@@ -15,9 +18,6 @@ use session::start_cpu;
 use sound::Bench;
 use sound::Session;
 use sound::slot_at;
-use tests::at_most;
-use tests::both;
-use tests::code_of;
 
 mod gaps;
 

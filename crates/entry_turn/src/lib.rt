@@ -5,6 +5,7 @@ ghost use Prim.Native.Nat.{_≤_};
 ghost use Rattle.sound.specs.Bench.{worldOf};
 ghost use Rattle.entry.specs.Answer.{resultOf};
 ghost use Rattle.entry.specs.Entries.{turnOf};
+use bounds::code_of;
 use entry::Answer;
 use entry::Out;
 use entry::guard;
@@ -15,7 +16,6 @@ use session::run;
 use sound::Bench;
 use sound::session_at;
 use sound::slot_at;
-use tests::code_of;
 
 // The steps that a turn did, of the 65,535 that it can be asked for.
 fn steps_done(n: usize) -> Answer

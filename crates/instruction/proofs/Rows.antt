@@ -1,5 +1,5 @@
 -- What the packed number of a first byte tells of its row, digit by digit: one test that antt computes over the 256 bytes.
--- Above: Steps and Decoding; below: the packed rows of `code`. Assumes nothing.
+-- Above: Steps and Decoding; below: the packed rows of `opcodes`. Assumes nothing.
 use Prim.Native.Nat.{ℕ, _/_, _%_, _<_}
 use mathlib.Core.Path.{_≡_, refl, ap, _∙_}
 use mathlib.Core.Bool.{Bool, true, false}
@@ -11,7 +11,7 @@ use Rattle.operand.specs.Operand.{Form, UB, SB, DB, B, W, digit}
 use Rattle.operand.proofs.Operands.{numbered}
 use Rattle.pmachine.specs.Opcode.{Row, carried, uncarried, opcode, rowIn, appendixB}
 use Rattle.pmachine.proofs.Rows.{numbers, at-number}
-use Rattle.code.specs.Packed.{packedForms, packed}
+use Rattle.opcodes.specs.Packed.{packedForms, packed}
 use Rattle.instruction.specs.Standing.{leading}
 use Rattle.instruction.specs.Parts.{byDigit}
 

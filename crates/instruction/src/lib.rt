@@ -1,11 +1,11 @@
 // What stands at a byte of the code: the first byte, whether it is carried, and its operands as far as they are there.
-// Above: listings, and what is told of a fault. Below: the table of first bytes in `code`, and the reader, which fetches operands.
+// Above: listings, and what is told of a fault. Below: the table of first bytes in `opcodes`, and the reader, which fetches operands.
 use operand::Operand;
 ghost use mathlib.Core.Path.{_≡_};
 ghost use Prim.Native.Nat.{_<_};
 ghost use Rattle.operand.specs.Operand.{fetchedOf};
 ghost use Rattle.pmachine.specs.Opcode.{opcode};
-ghost use Rattle.code.specs.Packed.{packed};
+ghost use Rattle.opcodes.specs.Packed.{packed};
 ghost use Rattle.instruction.specs.Standing.{bareOf, cutOf, byRow};
 ghost use Rattle.instruction.specs.Decodes.{Reads};
 ghost use Rattle.instruction.specs.Parts.{byDigit, afterFirst};
@@ -32,7 +32,7 @@ pub struct Instruction {
 fn row_of(first: u8) -> u32
     ensures { λ r. ⌜ r ≡ packed (opcode first) ⌝ }
 {
-    let t = code::table();
+    let t = opcodes::table();
     t[first as usize]
 }
 

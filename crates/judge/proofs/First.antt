@@ -1,5 +1,5 @@
 -- What the first byte's answer comes to: a fault of its own, or the rest of the instruction, whose operands begin inside the segment.
--- Above: the proof of `judge`; below: the decoder's laws of `code`.
+-- Above: the proof of `judge`; below: the decoder's laws of `opcodes`.
 use Prim.Native.Nat.{ℕ, _+_, _<_}
 use mathlib.Core.Path.{_≡_, refl, sym, _∙_, ap, subst}
 use mathlib.Core.List.{List, [], _∷_}
@@ -14,11 +14,11 @@ use Rattle.operand.specs.Bytes.{byteAt}
 use Rattle.pmachine.specs.Opcode.{Row, carried, uncarried, opcode}
 use Rattle.pmachine.specs.Decoding.{faulty, rowDecoded}
 use Rattle.pmachine.specs.Step.{Outcome, fault, judgedBy, judge}
-use Rattle.code.specs.declared.Decode.{Decode}
-use Rattle.code.specs.declared.Decode.the-variants.{Decoded, Outside, Uncarried}
-use Rattle.code.specs.First.{byRow, firstOf, restOf}
-use Rattle.code.proofs.Decode as decode-enum
-use Rattle.code.proofs.Rows.{first-decode}
+use Rattle.opcodes.specs.declared.Decode.{Decode}
+use Rattle.opcodes.specs.declared.Decode.the-variants.{Decoded, Outside, Uncarried}
+use Rattle.opcodes.specs.First.{byRow, firstOf, restOf}
+use Rattle.opcodes.proofs.Decode as decode-enum
+use Rattle.opcodes.proofs.Rows.{first-decode}
 use Rattle.plan.specs.declared.Regs.{Regs}
 use Rattle.plan.specs.declared.Planned.the-variants.{Bad}
 use Rattle.plan.specs.Answer.{regsOf, outcomeOf}

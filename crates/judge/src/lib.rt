@@ -1,6 +1,6 @@
 // The judgement of a step: the one fault, or what changes. It only reads.
-// Above: `machine`, which writes what is planned; below: `plan`, what each meaning comes to, and `code`, the first byte.
-use code::Decode;
+// Above: `machine`, which writes what is planned; below: `plan`, what each meaning comes to, and `opcodes`, the first byte.
+use opcodes::Decode;
 use operand::Operand;
 use plan::Facts;
 use plan::Link;
@@ -35,7 +35,7 @@ ghost use Rattle.pmachine.specs.Opcode.{opcode};
 ghost use Rattle.pmachine.specs.Decoding.{rowDecoded};
 ghost use Rattle.pmachine.specs.Step.{judgedBy, judge as Step·judge};
 ghost use Rattle.pmachine.specs.Sound.{Loaded, Ranged};
-ghost use Rattle.code.specs.Packed.{Agrees};
+ghost use Rattle.opcodes.specs.Packed.{Agrees};
 ghost use Rattle.plan.specs.Answer.{regsOf, outcomeOf};
 ghost use Rattle.plan.specs.Told.{Told};
 ghost use Rattle.judge.specs.Fault.{numberOf};
@@ -540,7 +540,7 @@ pub fn judge(
     requires { ⌜ length (now shared) ≤ 32768 ⌝ }
     ensures { λ p. ⌜ outcomeOf r p ≡ Step·judge (now (seg .entry)) (now (shared .entry)) (now (region .entry)) (regsOf r) ⌝ }
 {
-    let first = code::decoded(seg, t, r.counter);
+    let first = opcodes::decoded(seg, t, r.counter);
     let Decode::Decoded(op) = first else {
         return Planned::Bad(fault_number(first));
     };

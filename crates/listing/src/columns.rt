@@ -6,9 +6,9 @@ use text::front;
 const WIDTH: usize = 13;
 
 pub fn place(at: usize) {
-    say::text(b"  byte ");
-    say::padded(at as u64, 5);
-    say::text(b": ");
+    pond_say::text(b"  byte ");
+    pond_say::padded(at as u64, 5);
+    pond_say::text(b": ");
 }
 
 // The bytes from at up to next.
@@ -41,12 +41,12 @@ fn each(part: &[u8]) {
 // Blanks after so many characters, up to a column's width.
 pub fn gap(used: usize, width: usize) {
     if used < width {
-        say::blanks(width - used);
+        pond_say::blanks(width - used);
     }
 }
 
 // A byte in two digits, with a blank after it.
 fn byte(b: u8) {
-    say::hex(b as u64, 2);
-    say::blanks(1);
+    pond_say::hex(b as u64, 2);
+    pond_say::blanks(1);
 }

@@ -15,7 +15,7 @@ pub fn line(seg: &[u8], at: usize) -> usize
     ensures { λ r. ⌜ (at < length (now (seg .entry)) → at < r) ⌝ }
 {
     let next = row(seg, at);
-    say::end();
+    pond_say::end();
     places::forward(seg.len(), at, next)
 }
 
@@ -23,7 +23,7 @@ pub fn line(seg: &[u8], at: usize) -> usize
 pub fn row(seg: &[u8], at: usize) -> usize {
     columns::place(at);
     if seg.len() <= at {
-        say::text(b"past the end of the segment");
+        pond_say::text(b"past the end of the segment");
         return at;
     }
     let i = instruction::read(seg, at);
@@ -39,9 +39,9 @@ fn named(seg: &[u8], i: Instruction) {
     if !i.carried {
         other(n);
     } else if !i.whole {
-        say::text(b"cut off by the end of the segment");
+        pond_say::text(b"cut off by the end of the segment");
     } else if over(i.first, i.x) {
-        say::text(b"not carried: more than 127 links");
+        pond_say::text(b"not carried: more than 127 links");
     } else {
         table::meaning(i.first, seg, i.x, i.y, i.next);
     }
@@ -50,9 +50,9 @@ fn named(seg: &[u8], i: Instruction) {
 // A first byte without a mnemonic, which shows as one character, is no instruction.
 fn other(name: usize) {
     if name < 2 {
-        say::text(b"no instruction");
+        pond_say::text(b"no instruction");
     } else {
-        say::text(b"not carried");
+        pond_say::text(b"not carried");
     }
 }
 

@@ -12,26 +12,26 @@ pub struct Operands {
 
 // A word as a number in two's complement, and as it stands where that differs.
 pub fn signed(w: u16) {
-    say::signed(w);
+    pond_say::signed(w);
     if w > 32767 {
-        say::text(b", unsigned ");
-        say::number(w as u64);
+        pond_say::text(b", unsigned ");
+        pond_say::number(w as u64);
     }
 }
 
 // A number of links or words; one of them loses its s.
 fn counted(n: u16, things: &[u8]) {
-    say::number(n as u64);
+    pond_say::number(n as u64);
     if n == 1 {
-        say::text(text::front(things, 5));
+        pond_say::text(text::front(things, 5));
     } else {
-        say::text(things);
+        pond_say::text(things);
     }
 }
 
 pub fn links(n: u16) {
     counted(n, b" links");
-    say::text(b" out");
+    pond_say::text(b" out");
 }
 
 pub fn words(n: u16) {
@@ -42,7 +42,7 @@ pub fn words(n: u16) {
 pub fn jump(len: usize, next: usize, distance: u16) {
     if next <= 65536 {
         let t = places::landing(next, distance);
-        say::number(t as u64);
+        pond_say::number(t as u64);
         outside(len, t);
     }
 }
@@ -50,19 +50,19 @@ pub fn jump(len: usize, next: usize, distance: u16) {
 // A target below byte 0 counts as 0.
 fn outside(len: usize, t: usize) {
     if t == 0 {
-        say::text(b" or below");
+        pond_say::text(b" or below");
     }
     if !places::in_code(len, t) {
-        say::text(b" (outside the code)");
+        pond_say::text(b" (outside the code)");
     }
 }
 
 // A routine's number, and whether the segment has it.
 pub fn routine(seg: &[u8], k: u16) {
-    say::number(k as u64);
+    pond_say::number(k as u64);
     let h = segment::head(seg);
     if !places::one_to(h.count, k) {
-        say::text(b" (not there)");
+        pond_say::text(b" (not there)");
     }
 }
 
@@ -70,17 +70,17 @@ pub fn routine(seg: &[u8], k: u16) {
 pub fn pooled(seg: &[u8], x: u16) {
     let h = segment::head(seg);
     if h.pool == 0 {
-        say::text(b"(no pool)");
+        pond_say::text(b"(no pool)");
     } else {
         stands(h.words, h.pool as usize + x as usize);
     }
 }
 
 fn stands(words: usize, w: usize) {
-    say::text(b"(word ");
-    say::number(w as u64);
+    pond_say::text(b"(word ");
+    pond_say::number(w as u64);
     if words <= w {
-        say::text(b", outside the segment");
+        pond_say::text(b", outside the segment");
     }
-    say::text(b")");
+    pond_say::text(b")");
 }

@@ -13,7 +13,7 @@ pub fn long(row: &[u8], k: u8, seg: &[u8], o: Operands) -> usize {
     let all = piece(row, k);
     if o.named {
         let w = word(all, 0);
-        say::text(w);
+        pond_say::text(w);
         return w.len();
     }
     phrase(all, seg, o);
@@ -23,8 +23,8 @@ pub fn long(row: &[u8], k: u8, seg: &[u8], o: Operands) -> usize {
 // A short form: four letters and its number, which is below 100 and stands in for the operand.
 pub fn short(all: &[u8], n: u8, seg: &[u8], named: bool) -> usize {
     if named {
-        say::text(word(all, 0));
-        say::number(n as u64);
+        pond_say::text(word(all, 0));
+        pond_say::number(n as u64);
         return if n < 10 { 5 } else { 6 };
     }
     phrase(
@@ -49,7 +49,7 @@ fn phrase(all: &[u8], seg: &[u8], o: Operands) {
             break;
         }
         if n > 1 {
-            say::blanks(1);
+            pond_say::blanks(1);
         }
         shown(w, seg, o);
         n += 1;
@@ -65,10 +65,10 @@ fn shown(w: &[u8], seg: &[u8], o: Operands) {
     let c = w[0];
     match c {
         b'#' => {
-            say::number(o.x as u64);
+            pond_say::number(o.x as u64);
         }
         b'%' => {
-            say::number(o.y as u64);
+            pond_say::number(o.y as u64);
         }
         b'~' => {
             operands::signed(o.x);
@@ -92,9 +92,9 @@ fn shown(w: &[u8], seg: &[u8], o: Operands) {
             operands::pooled(seg, o.x);
         }
         _ => {
-            say::text(w);
+            pond_say::text(w);
             return;
         }
     }
-    say::text(&w[1..]);
+    pond_say::text(&w[1..]);
 }

@@ -13,7 +13,7 @@ pub fn listing(seg: &[u8]) {
     let mut k: u16 = 0;
     while k < n {
         if k > 0 {
-            say::end();
+            pond_say::end();
         }
         k += 1;
         routine(seg, k);
@@ -29,15 +29,15 @@ fn routine(seg: &[u8], k: u16) {
 }
 
 fn heading(k: u16, r: Routine) {
-    say::text(b"routine ");
-    say::number(k as u64);
-    say::text(b": first byte ");
-    say::number(r.start as u64);
-    say::text(b", DATASIZE ");
-    say::number(r.datasize as u64);
-    say::text(b", EXITIC ");
-    say::number(r.exitic as u64);
-    say::end();
+    pond_say::text(b"routine ");
+    pond_say::number(k as u64);
+    pond_say::text(b": first byte ");
+    pond_say::number(r.start as u64);
+    pond_say::text(b", DATASIZE ");
+    pond_say::number(r.datasize as u64);
+    pond_say::text(b", EXITIC ");
+    pond_say::number(r.exitic as u64);
+    pond_say::end();
 }
 
 fn code(seg: &[u8], start: usize, end: usize, exitic: usize) {
@@ -57,9 +57,9 @@ fn code(seg: &[u8], start: usize, end: usize, exitic: usize) {
 // Why no line has the mark of EXITIC.
 fn unmet(code: bool) {
     if code {
-        say::text(b"  no line of this routine begins at its EXITIC\n");
+        pond_say::text(b"  no line of this routine begins at its EXITIC\n");
     } else {
-        say::text(b"  no code stands there\n");
+        pond_say::text(b"  no code stands there\n");
     }
 }
 
@@ -69,8 +69,8 @@ fn marked(seg: &[u8], at: usize, end: usize, exitic: usize) -> usize
 {
     let next = lines::row(seg, at);
     if at == exitic {
-        say::text(b"  <- EXITIC");
+        pond_say::text(b"  <- EXITIC");
     }
-    say::end();
+    pond_say::end();
     places::forward(end, at, next)
 }

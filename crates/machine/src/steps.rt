@@ -10,7 +10,7 @@ ghost use lib.ListN.{length, take};
 ghost use Rattle.basis.specs.Part.{part};
 ghost use Rattle.pmachine.specs.Step.{judge};
 ghost use Rattle.pmachine.specs.Sound.{Loaded, Ranged};
-ghost use Rattle.code.specs.Packed.{Agrees};
+ghost use Rattle.opcodes.specs.Packed.{Agrees};
 ghost use Rattle.plan.specs.Answer.{regsOf, outcomeOf};
 ghost use Rattle.plan.specs.Told.{Told};
 ghost use Rattle.machine.specs.Memory.{Placed, Stood};

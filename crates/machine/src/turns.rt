@@ -64,7 +64,7 @@ fn run(
     requires { ⌜ Ranged (now seg) (end - at) (regsOf start) ⌝ }
     ensures { λ t. ⌜ TurnedTo (now (seg .entry)) (now (mem .entry)) s at end k (regsOf start) ready t (now (mem .exit)) ⌝ }
 {
-    let table = code::table();
+    let table = opcodes::table();
     let mut sp = start.sp;
     let mut m = start.m;
     let mut counter = start.counter;

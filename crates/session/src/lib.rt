@@ -1,12 +1,12 @@
 // A session on a loaded segment: which registers are sound, how it starts, and its turn in a memory that holds all regions.
 // Above: the bench, which knows of segments and the machine by this crate alone; below: `machine` and `segment`.
+use bounds::at_most;
+use bounds::both;
+use bounds::ends_by;
 use machine::Cpu;
 use machine::Kind;
 use machine::Turned;
 use plan::Regs;
-use tests::at_most;
-use tests::both;
-use tests::ends_by;
 ghost use mathlib.Core.Path.{_≡_};
 ghost use mathlib.Core.Bool.{true};
 ghost use Prim.Native.Nat.{_-_, _≤_};

@@ -4,10 +4,10 @@ ghost use mathlib.Core.Path.{_≡_};
 ghost use lib.ListN.{getD};
 ghost use Rattle.sound.specs.Bench.{noSlot, noSession, slotAt, fresh, at-cpu};
 ghost use Rattle.sound.specs.Sound.{limitsOk, soundB};
+use bounds::at_most;
+use bounds::both;
 use machine::Cpu;
 use session::no_cpu;
-use tests::at_most;
-use tests::both;
 
 mod regions;
 mod sessions;

@@ -5,10 +5,10 @@ ghost use Prim.Native.Nat.{_≤_};
 ghost use lib.ListN.{drop};
 ghost use Rattle.sound.specs.Sound.{all, placed, apart, allApart};
 use super::Session;
-use tests::at_most;
-use tests::both;
-use tests::either;
-use tests::ends_by;
+use bounds::at_most;
+use bounds::both;
+use bounds::either;
+use bounds::ends_by;
 
 fn is_placed(n: usize, s: usize, se: Session) -> bool
     ensures { λ r. ⌜ r ≡ placed n s se ⌝ }

@@ -4,10 +4,10 @@ ghost use mathlib.Core.Path.{_≡_};
 ghost use Rattle.sound.specs.Sound.{all, sessionOk};
 use super::Session;
 use super::Slot;
+use bounds::at_most;
+use bounds::both;
+use bounds::code_of;
 use session::cpu_ok;
-use tests::at_most;
-use tests::both;
-use tests::code_of;
 
 fn session_ok(store: &[u8], slots: [Slot; 16], se: Session) -> bool
     ensures { λ r. ⌜ r ≡ sessionOk (now (store .entry)) slots se ⌝ }

@@ -3,9 +3,9 @@
 ghost use mathlib.Core.Path.{_≡_};
 ghost use Rattle.sound.specs.Sound.{all, slotOk};
 use super::Slot;
-use tests::both;
-use tests::code_of;
-use tests::ends_by;
+use bounds::both;
+use bounds::code_of;
+use bounds::ends_by;
 
 fn slot_ok(store: &[u8], sl: Slot) -> bool
     ensures { λ r. ⌜ r ≡ slotOk (now (store .entry)) sl ⌝ }

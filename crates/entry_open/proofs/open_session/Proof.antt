@@ -117,7 +117,7 @@ returns-4 c =
     let gap = sym (gapped .gap-for .ensures) ∙ told .gap .given .1 in
     accepts _ _ _ (past-13 (sized left) _ _ (holds _ _ _ _ _ (le-leb _ 15 (left-at left)) (holds _ _ _ _ _ (ap found gap) none-left)))
     (opened _ _ _ _ _ _ _ _ _ _ (clearing .clear .ensures) (made .fresh .ensures) (made .before .start-cpu .ensures) (coded-at (sized left .before .before))
-      (left .before .first-unused .ensures) gap)
+    (left .before .first-unused .ensures) gap)
 
 returns-5 : tie.Need-returns-5
 unfolding openOf

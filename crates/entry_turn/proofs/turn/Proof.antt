@@ -105,7 +105,7 @@ returns-3 c =
     let few = few-at coded in
     accepts _ _ _ (passed-first _ _ _ (going-at (few .before) .passes) (holds _ _ _ _ _ (le-leb _ 65535 (few .if1 .left)) none-left))
     (ran _ (world (guard-at coded)) _ _ _ _ _ (running .run .result) _ _ _ (guard-at coded .before .before .session-at .ensures) (coded-at coded)
-      (running .run .ensures) (stored .before .at .ensures) (stored .with-session .ensures) (c .steps-done .ensures))
+    (running .run .ensures) (stored .before .at .ensures) (stored .with-session .ensures) (c .steps-done .ensures))
 
 pub turn-spec : {M : Type 1} → statement M
 turn-spec =

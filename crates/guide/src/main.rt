@@ -1,5 +1,0 @@
-// The transcripts of README.md and docs/OPERATING.md, held by the gate: `stdin` has their commands, `stdout` what they show. `data/examples`
-// has the files of examples/. Everything is said and done in `console`, as in the program `pond`.
-fn main() {
-    console::script();
-}

@@ -1,0 +1,106 @@
+// `fill FILE`: the shared words from a file, two bytes a word, least byte first.
+// Above it: the console. Below it: files.
+use pond_look::told;
+use sound::Bench;
+use text::front;
+
+// More bytes than the most shared words take: a file that fills this room is too long.
+const ROOM: usize = 65538;
+
+fn space() -> [u8; 65538] {
+    [0u8; 65538]
+}
+
+pub fn fill(b: Bench, memory: &mut [u16], file: &[u8]) {
+    let mut room = space();
+    let got = pond_files::read(file, &mut room);
+    let n = got.count;
+    let error = got.error;
+    if error != 0 {
+        pond_files::cannot(b"cannot read ", file, error);
+        return;
+    }
+    from_bytes(b, memory, file, front(&room, n));
+}
+
+// Fills, where the bytes are whole words and no more than are shared.
+pub fn from_bytes(b: Bench, memory: &mut [u16], file: &[u8], bytes: &[u8]) {
+    let n = bytes.len() / 2;
+    if b.s < n {
+        too_long(b.s, file, bytes.len());
+        return;
+    }
+    if bytes.len() % 2 != 0 {
+        odd(file, bytes.len());
+        return;
+    }
+    pour_front(memory, n, bytes);
+    filled(n, file);
+}
+
+// Into the first n words.
+fn pour_front(memory: &mut [u16], n: usize, bytes: &[u8]) {
+    if n <= memory.len() {
+        pour(&mut memory[0..n], bytes);
+    }
+}
+
+fn pour(part: &mut [u16], bytes: &[u8]) {
+    let mut i: usize = 0;
+    while i < part.len() {
+        part[i] = word(bytes, i);
+        i += 1;
+    }
+}
+
+fn word(bytes: &[u8], i: usize) -> u16 {
+    if i < 32768 {
+        return operand::word_at(bytes, true, i as u32);
+    }
+    0
+}
+
+// `filled shared words 0 to 7 from FILE`
+fn filled(n: usize, file: &[u8]) {
+    pond_say::text(b"filled ");
+    if n == 0 {
+        pond_say::text(b"no shared words");
+    } else {
+        pond_say::text(b"shared ");
+        told::span(0, n);
+    }
+    pond_say::text(b" from ");
+    pond_say::path(file);
+    pond_say::end();
+}
+
+fn cannot(file: &[u8], bytes: usize) {
+    pond_say::text(b"cannot fill: ");
+    pond_say::path(file);
+    pond_say::text(b" has ");
+    told::counted(bytes as u64, b" byte");
+}
+
+fn odd(file: &[u8], bytes: usize) {
+    cannot(file, bytes);
+    pond_say::text(b", and a word takes two\n");
+}
+
+fn too_long(s: usize, file: &[u8], bytes: usize) {
+    cannot(file, bytes);
+    if bytes == ROOM {
+        pond_say::text(b" or more");
+    }
+    pond_say::text(b", and ");
+    told::counted(s as u64, b" shared word");
+    pond_say::text(b" have room for ");
+    pond_say::number(room(s));
+    pond_say::end();
+}
+
+fn room(s: usize) -> u64 {
+    if 32768 < s {
+        return 0;
+    }
+    2 * s as u64
+}

@@ -1,0 +1,35 @@
+-- `contents::lines` is safe and ends. The measure is how many words are left. Assumes nothing.
+use borrow.Author.Needs.{needs}
+use Prim.Native.Nat.{_-_}
+use lib.ListN.{length}
+use Rattle.pond_look.proofs.contents.lines.Statement.{statement}
+use Rattle.pond_look.proofs.contents.lines.Tie as tie
+
+abbrev Inv-loop : tie.InvT-loop
+Inv-loop part first at₀ at = Unit {0}
+
+abbrev μ-loop : tie.MeasureT-loop
+μ-loop part first at₀ at = length part - at
+
+loop-holds : tie.Need-loop-holds Inv-loop μ-loop
+loop-holds c = search needs
+
+line-requires : tie.Need-line-requires Inv-loop μ-loop
+line-requires c κs = search needs
+
+loop-less : tie.Need-loop-less Inv-loop μ-loop
+loop-less c = search needs
+
+loop-again : tie.Need-loop-again Inv-loop μ-loop
+loop-again c = search needs
+
+returns : tie.Need-returns Inv-loop μ-loop
+returns c = search needs
+
+returns-2 : tie.Need-returns-2 Inv-loop μ-loop
+returns-2 c = search needs
+
+pub lines-spec : {M : Type 1} → statement M
+lines-spec =
+    tie.close
+    (tie.spec Inv-loop μ-loop loop-holds line-requires loop-less loop-again returns returns-2)

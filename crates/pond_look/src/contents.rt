@@ -1,0 +1,193 @@
+// `words SESSION [FROM [COUNT]]` and `shared [FROM [COUNT]]`: one line a word, and one line for three or more zeros in a row.
+// Above it: the console, and run. Below it: the bench's numbers.
+use crate::refusals;
+use crate::told;
+use sound::Bench;
+
+// The words that are asked for: all, those from one on, or so many from one on.
+pub enum Wanted {
+    All,
+    From(u64),
+    Part(u64, u64),
+}
+
+// The words from one up to another that is not shown, where they are there.
+struct Stretch {
+    there: bool,
+    from: usize,
+    end: usize,
+}
+
+// The session's words by its own addresses, which begin at 1: 0 is NIL.
+pub fn words(b: Bench, memory: &[u16], session: u64, wanted: Wanted) {
+    let i = session as usize;
+    let se = told::record(b, i);
+    if !se.used {
+        refusals::of_session(12, 0, session);
+        return;
+    }
+    let own = told::region(memory, se.base, se.len);
+    if !shown(own, 1, wanted) {
+        cannot(wanted);
+        pond_say::text(b"session ");
+        pond_say::number(i as u64);
+        pond_say::text(b" has ");
+        told::span(1, told::less(own.len(), 1));
+        pond_say::end();
+    }
+}
+
+pub fn shared(b: Bench, memory: &[u16], wanted: Wanted) {
+    let all = told::region(memory, 0, b.s);
+    if !shown(all, 0, wanted) {
+        cannot_share(wanted);
+        shared_are(all.len());
+    }
+}
+
+// All of no shared words can be shown: there are none.
+fn cannot_share(wanted: Wanted) {
+    if let Wanted::All = wanted {
+        return;
+    }
+    cannot(wanted);
+}
+
+fn shared_are(n: usize) {
+    if n == 0 {
+        pond_say::text(b"no words are shared\n");
+        return;
+    }
+    told::span(0, n);
+    pond_say::text(b" are shared\n");
+}
+
+// `cannot show 5 words from word 98 on: `
+fn cannot(wanted: Wanted) {
+    pond_say::text(b"cannot show ");
+    match wanted {
+        Wanted::All => {
+            pond_say::text(b"words: ");
+        }
+        Wanted::From(from) => {
+            pond_say::text(b"words");
+            cannot_from(from);
+        }
+        Wanted::Part(from, count) => {
+            told::counted(count, b" word");
+            cannot_from(from);
+        }
+    }
+}
+
+fn cannot_from(from: u64) {
+    pond_say::text(b" from word ");
+    pond_say::number(from);
+    pond_say::text(b" on: ");
+}
+
+// Shows the words that are wanted, the first of which is word low; answers whether they are there.
+fn shown(all: &[u16], low: usize, wanted: Wanted) -> bool {
+    let r = range(low, all.len(), wanted);
+    let from = r.from;
+    let end = r.end;
+    if !r.there {
+        return false;
+    }
+    if from > end {
+        return false;
+    }
+    if end > all.len() {
+        return false;
+    }
+    lines(&all[from..end], from);
+    true
+}
+
+fn range(low: usize, len: usize, wanted: Wanted) -> Stretch {
+    match wanted {
+        Wanted::All => within(low, len, low, told::less(len, low)),
+        Wanted::From(from) => within(low, len, from as usize, told::less(len, from as usize)),
+        Wanted::Part(from, count) => within(low, len, from as usize, count as usize),
+    }
+}
+
+// The count words from one on, if there are any and all are among the words from low up to len.
+fn within(low: usize, len: usize, from: usize, count: usize) -> Stretch {
+    let end = told::past(from, count);
+    Stretch {
+        there: bounds::both(bounds::at_most(1, count), inside(low, len, from, count)),
+        from,
+        end,
+    }
+}
+
+fn inside(low: usize, len: usize, from: usize, count: usize) -> bool {
+    bounds::both(
+        bounds::at_most(low, from),
+        bounds::ends_by(from, count, len),
+    )
+}
+
+// A line for each word of a part, or for a run of zeros; the part's first word is word first.
+fn lines(part: &[u16], first: usize) {
+    let mut at: usize = 0;
+    while at < part.len() {
+        let next = line(part, at, first);
+        if next <= at {
+            break;
+        }
+        at = next;
+    }
+}
+
+// The line that begins with word at of the part; the word after it.
+fn line(part: &[u16], at: usize, first: usize) -> usize {
+    let end = zeros(part, at);
+    if told::past(at, 2) < end {
+        run(told::past(first, at), told::less(end, at));
+        return end;
+    }
+    one(part, at, told::past(first, at));
+    told::past(at, 1)
+}
+
+// The end of the zeros that begin at word at.
+fn zeros(part: &[u16], at: usize) -> usize {
+    let mut i = at;
+    while i < part.len() {
+        if part[i] != 0 {
+            break;
+        }
+        i += 1;
+    }
+    i
+}
+
+// `  6 to 93: 0`
+fn run(from: usize, count: usize) {
+    pond_say::text(b"  ");
+    pond_say::number(from as u64);
+    told::to(told::last(from, count));
+    pond_say::text(b": 0\n");
+}
+
+// `  94: 65529, signed -7, hex fff9`
+fn one(part: &[u16], at: usize, name: usize) {
+    if at < part.len() {
+        let w = part[at];
+        pond_say::text(b"  ");
+        pond_say::number(name as u64);
+        pond_say::text(b": ");
+        forms(w);
+    }
+}
+
+fn forms(w: u16) {
+    pond_say::number(w as u64);
+    pond_say::text(b", signed ");
+    pond_say::signed(w);
+    pond_say::text(b", hex ");
+    pond_say::hex(w as u64, 4);
+    pond_say::end();
+}

@@ -1,0 +1,96 @@
+// `map`: every word of the memory in one line, in order of place: shared, a session's, or free.
+// Above it: the console. Below it: the bench's numbers.
+use crate::told;
+use sound::Bench;
+use sound::Session;
+
+pub fn map(b: Bench) {
+    if b.n == 0 {
+        pond_say::text(b"the memory has no words\n");
+        return;
+    }
+    if b.s > 0 {
+        told::span(0, b.s);
+        pond_say::text(b": shared\n");
+    }
+    lines(b, b.s, b.n);
+}
+
+fn lines(b: Bench, from: usize, n: usize) {
+    let mut at = from;
+    while at < n {
+        let next = line(b, at, n);
+        if next <= at {
+            break;
+        }
+        at = next;
+    }
+}
+
+// The line that begins with word at; the word after it.
+fn line(b: Bench, at: usize, n: usize) -> usize {
+    let sessions = b.sessions;
+    let i = begins(sessions, at);
+    if i < 16 {
+        return owned(b, i);
+    }
+    let next = nearest(sessions, at, n);
+    free(at, next);
+    next
+}
+
+fn owned(b: Bench, i: usize) -> usize {
+    let se = told::record(b, i);
+    told::span(se.base, se.len);
+    pond_say::text(b": ");
+    told::session_of(i);
+    let cpu = se.cpu;
+    let kind = cpu.kind;
+    told::kind(kind);
+    pond_say::end();
+    told::past(se.base, se.len)
+}
+
+fn free(at: usize, next: usize) {
+    told::span(at, told::less(next, at));
+    pond_say::text(b": free\n");
+}
+
+// The session whose region begins at word at, or 16.
+fn begins(sessions: [Session; 16], at: usize) -> usize {
+    let mut i: usize = 0;
+    while i < 16 {
+        let se = sessions[i];
+        if starts(se, at) {
+            return i;
+        }
+        i += 1;
+    }
+    16
+}
+
+fn starts(se: Session, at: usize) -> bool {
+    bounds::both(se.used, se.base == at)
+}
+
+// The first word from at on where a region begins, or n.
+fn nearest(sessions: [Session; 16], at: usize, n: usize) -> usize {
+    let mut found = n;
+    let mut i: usize = 0;
+    while i < 16 {
+        let se = sessions[i];
+        found = nearer(se, at, found);
+        i += 1;
+    }
+    found
+}
+
+fn nearer(se: Session, at: usize, found: usize) -> usize {
+    if !se.used {
+        return found;
+    }
+    if bounds::within(at, found, se.base) {
+        return se.base;
+    }
+    found
+}
