@@ -3,6 +3,7 @@ use borrow.Author.Needs.{needs}
 use mathlib.Core.List.{[]}
 use mathlib.Core.Path.{_≡_}
 use Prim.Native.Nat.{ℕ}
+use native.Mathlib.Omega.{arith}
 use Rattle.sound.specs.declared.Session.{Session}
 use Rattle.sound.specs.Bench.{noSession, World, worldOf, sessionAt}
 use Rattle.entry.specs.Answer.{done}
@@ -40,7 +41,7 @@ clear-requires : tie.Need-clear-requires
 clear-requires c κs =
     let told = c .before .before in
     let g = guarded-at (told .before .before) .goes (told .enum-told .given .1) in
-    (g .low, g .session .inside)
+    (omega (arith, g .low), omega (arith, g .session .inside))
 
 returns-2 : tie.Need-returns-2
 unfolding closeOf

@@ -94,7 +94,9 @@ run-requires c κs =
 steps-done-requires : tie.Need-steps-done-requires
 steps-done-requires c κs =
     let running = c .before .before .before .before .before in
-    few-done _ _ _ _ _ _ _ _ _ (running .run .ensures) (few-at (running .before .before .before .before) .if1 .left)
+    let few = few-at (running .before .before .before .before) .if1 .left in
+    let done = few-done _ _ _ _ _ _ _ _ _ (running .run .ensures) (omega (arith, few)) in
+    omega (arith, few, done)
 
 returns-3 : tie.Need-returns-3
 unfolding turnOf
