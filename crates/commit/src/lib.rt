@@ -27,10 +27,8 @@ fn put_five(region: &mut [u16], m: usize, mark: [u16; 5])
     requires { ⌜ m + 4 < length (now region) ⌝ }
     ensures { λ _. ⌜ now (region .exit) ≡ written (now (region .entry)) m (five mark) ⌝ }
 {
-    put(region, m, mark[0]);
-    put(region, m + 1, mark[1]);
-    put(region, m + 2, mark[2]);
-    put(region, m + 3, mark[3]);
+    put_both(region, m, mark[0], mark[1]);
+    put_both(region, m + 2, mark[2], mark[3]);
     put(region, m + 4, mark[4]);
 }
 

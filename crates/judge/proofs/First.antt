@@ -1,64 +1,61 @@
--- What the first byte's answer comes to: a fault of its own, or the rest of the instruction, whose operands begin inside the segment.
--- Above: the proof of `judge`; below: the decoder's laws of `opcodes`.
-use Prim.Native.Nat.{ℕ, _+_, _<_}
+-- What the first byte's answer comes to: fault 1, or the rest of the instruction, whose operands begin inside the segment.
+-- Above: the proofs of `decode` and `judge`; below: the decoder of `pmachine`.
+use Prim.Native.Nat.{ℕ, _+_, _<_, _≤_}
+use native.Mathlib.Omega.{arith}
 use mathlib.Core.Path.{_≡_, refl, sym, _∙_, ap, subst}
-use mathlib.Core.List.{List, [], _∷_}
+use mathlib.Core.Bool.{Bool, true, false, cond}
+use mathlib.Core.List.{List}
 use lib.Dec.{leb, ltb}
 use lib.ListN.{length}
-use borrow.Author.Tests.{ltb-true}
-use types.Run.{OneOf, miss}
-use denote.Enum.Declared.{tagOf}
+use borrow.Author.Tests.{ltb-true, le-leb, le-ltb, lt-ltb}
 use Rattle.basis.specs.Bools.{inside}
 use Rattle.basis.proofs.Bools.{cond-holds, and-snd}
 use Rattle.operand.specs.Bytes.{byteAt}
-use Rattle.pmachine.specs.Opcode.{Row, carried, uncarried, opcode}
-use Rattle.pmachine.specs.Decoding.{faulty, rowDecoded}
+use Rattle.pmachine.specs.Opcode.{opcode}
+use Rattle.pmachine.specs.Decoding.{Decoded as Decoding, decode, faulty, rowDecoded}
 use Rattle.pmachine.specs.Step.{Outcome, fault, judgedBy, judge}
-use Rattle.opcodes.specs.declared.Decode.{Decode}
-use Rattle.opcodes.specs.declared.Decode.the-variants.{Decoded, Outside, Uncarried}
-use Rattle.opcodes.specs.First.{byRow, firstOf, restOf}
-use Rattle.opcodes.proofs.Decode as decode-enum
-use Rattle.opcodes.proofs.Rows.{first-decode}
 use Rattle.plan.specs.declared.Regs.{Regs}
 use Rattle.plan.specs.declared.Planned.the-variants.{Bad}
 use Rattle.plan.specs.Answer.{regsOf, outcomeOf}
 use Rattle.plan.proofs.Arms.{bad}
-use Rattle.judge.specs.Fault.{numberOf}
+use Rattle.judge.specs.declared.Byte.{Byte}
+use Rattle.judge.specs.declared.Byte.the-variants.{Decoded, Outside}
+use Rattle.judge.specs.First.{firstOf, restOf}
+
+module _ (s : List ℕ) (at : ℕ) (low : 22 ≤ at) where
+  pub past : length s ≤ at → firstOf s at ≡ Outside
+  unfolding firstOf inside
+  past h = simp (le-leb _ _ low, le-ltb _ _ h)
+
+  pub there : at < length s → firstOf s at ≡ Decoded (byteAt s at)
+  unfolding firstOf inside
+  there h = simp (le-leb _ _ low, lt-ltb _ _ h)
 
 -- a byte that is decoded lies in the segment
-abbrev In : List ℕ → ℕ → Decode → Type 0
+abbrev In : List ℕ → ℕ → Byte → Type 0
 In s at (Decoded b) = at < length s
 In s at Outside = Unit {0}
-In s at Uncarried = Unit {0}
 
-in-row : (s : List ℕ) (at b : ℕ) (x : Row) → at < length s → In s at (byRow b x)
-unfolding byRow
-in-row s at b (carried f t g d) h = h
-in-row s at b uncarried h = tt
-
-pub decoded-in : (s : List ℕ) (at b : ℕ) (d : Decode) → d ≡ firstOf s at → d ≡ Decoded b → at < length s
+pub decoded-in : (s : List ℕ) (at b : ℕ) (d : Byte) → d ≡ firstOf s at → d ≡ Decoded b → at < length s
 unfolding firstOf inside
 decoded-in s at b d e p =
     subst (In s at) (sym e ∙ p)
-    (cond-holds (In s at) (inside 22 (length s) at)
-    (λ i. in-row s at (byteAt s at) (opcode (byteAt s at)) (ltb-true _ _ (and-snd (leb 22 at) (ltb at (length s)) i)))
-    (λ _. tt))
+    (cond-holds (In s at) (inside 22 (length s) at) (λ i. ltb-true _ _ (and-snd (leb 22 at) (ltb at (length s)) i)) (λ _. tt))
 
-not-decoded : (s : List ℕ) (at : ℕ) (d : Decode) → OneOf (1 ∷ 2 ∷ []) (tagOf decode-enum.the-type d) → restOf s at d ≡ faulty (numberOf d)
-unfolding restOf numberOf
-not-decoded s at (Decoded b) h = absurd (miss (1 ∷ 2 ∷ []) 0 tt h)
-not-decoded s at Outside h = refl
-not-decoded s at Uncarried h = refl
-
-module _ (s shared w : List ℕ) (q : Regs) (d : Decode) (e : d ≡ firstOf s (q .counter)) where
+module _ (s shared w : List ℕ) (q : Regs) (d : Byte) (e : d ≡ firstOf s (q .counter)) where
   rest : judge s shared w (regsOf q) ≡ judgedBy s shared w (regsOf q) (restOf s (q .counter) d)
-  unfolding judge
-  rest = ap (judgedBy s shared w (regsOf q)) (first-decode s (q .counter) ∙ ap (restOf s (q .counter)) (sym e))
+  unfolding judge decode firstOf restOf
+  rest = ap (judgedBy s shared w (regsOf q)) (go (inside 22 (length s) (q .counter)) ∙ ap (restOf s (q .counter)) (sym e))
+    where
+      go : (b : Bool) → cond b (rowDecoded (opcode (byteAt s (q .counter))) s (q .counter + 1)) (faulty 1)
+          ≡ restOf s (q .counter) (cond b (Decoded (byteAt s (q .counter))) Outside)
+      go true = refl
+      go false = refl
 
-  pub stops : (n : ℕ) → n ≡ numberOf d → OneOf (1 ∷ 2 ∷ []) (tagOf decode-enum.the-type d) → outcomeOf q (Bad n) ≡ judge s shared w (regsOf q)
-  unfolding judgedBy
-  stops n p h = bad q n ∙ ap fault p ∙ sym (rest ∙ ap (judgedBy s shared w (regsOf q)) (not-decoded s (q .counter) d h))
+  pub stops : d ≡ Outside → outcomeOf q (Bad 1) ≡ judge s shared w (regsOf q)
+  unfolding judgedBy restOf
+  stops p = bad q 1 ∙ sym (rest ∙ ap (λ (z : Byte). judgedBy s shared w (regsOf q) (restOf s (q .counter) z)) p)
 
   pub goes-on : (b : ℕ) → d ≡ Decoded b → {P : Outcome} → P ≡ judgedBy s shared w (regsOf q) (rowDecoded (opcode b) s (q .counter + 1)) → P ≡ judge s shared w (regsOf q)
   unfolding restOf
-  goes-on b p x = x ∙ sym (rest ∙ ap (λ (z : Decode). judgedBy s shared w (regsOf q) (restOf s (q .counter) z)) p)
+  goes-on b p x = x ∙ sym (rest ∙ ap (λ (z : Byte). judgedBy s shared w (regsOf q) (restOf s (q .counter) z)) p)

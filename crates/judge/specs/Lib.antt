@@ -1,2 +1,2 @@
 -- What a reader of this crate must believe: its definitions and statements, a module each.
-pub mod Fault
+pub mod First

@@ -1,44 +1,47 @@
 // The judgement of a step: the one fault, or what changes. It only reads.
 // Above: `machine`, which writes what is planned; below: `plan`, what each meaning comes to, and `opcodes`, the first byte.
-use opcodes::Decode;
 use operand::Operand;
+use plan::Binary;
+use plan::Division;
 use plan::Facts;
 use plan::Link;
 use plan::Planned;
 use plan::Regs;
+use plan::Unary;
 use plan::address;
 use plan::branch;
 use plan::call;
 use plan::check_range;
+use plan::divide;
+use plan::duplicate;
 use plan::enter;
-use plan::few;
 use plan::give_back;
-use plan::give_one;
-use plan::give_read;
-use plan::give_two;
+use plan::index;
 use plan::jump;
 use plan::load;
-use plan::nos;
+use plan::one_word;
 use plan::pool_offset;
 use plan::push;
-use plan::quotient;
-use plan::read_at;
-use plan::remainder;
+use plan::record;
 use plan::store;
 use plan::store_at;
-use plan::tos;
-use plan::walk;
+use plan::swap;
+use plan::two_words;
 ghost use mathlib.Core.Path.{_≡_};
 ghost use Prim.Native.Nat.{_+_, _≤_};
 ghost use lib.ListN.{length};
 ghost use Rattle.pmachine.specs.Opcode.{opcode};
 ghost use Rattle.pmachine.specs.Decoding.{rowDecoded};
 ghost use Rattle.pmachine.specs.Step.{judgedBy, judge as Step·judge};
-ghost use Rattle.pmachine.specs.Sound.{Loaded, Ranged};
-ghost use Rattle.opcodes.specs.Packed.{Agrees};
 ghost use Rattle.plan.specs.Answer.{regsOf, outcomeOf};
-ghost use Rattle.plan.specs.Told.{Told};
-ghost use Rattle.judge.specs.Fault.{numberOf};
+ghost use Rattle.plan.specs.Told.{Ready};
+ghost use Rattle.judge.specs.First.{firstOf};
+
+// The first byte of an instruction, or no byte of the code.
+enum Byte {
+    Decoded(u8),
+    Outside,
+}
 
 // The greatest number of links that a DB tells; one above it faults with 2.
 const DEEPEST: u16 = 127;
@@ -54,9 +57,7 @@ fn act(
     op: u8,
     at: usize,
 ) -> Planned
-    requires { ⌜ (Loaded (now seg)) × (Told (now seg) facts) ⌝ }
-    requires { ⌜ (Ranged (now seg) (length (now region)) (regsOf r)) × (length (now region) ≤ 32768) ⌝ }
-    requires { ⌜ (length (now shared) ≤ 32768) × (at ≤ length (now seg)) ⌝ }
+    requires { ⌜ (Ready (now seg) facts (now shared) (now region) r) × (at ≤ length (now seg)) ⌝ }
     ensures { λ p. ⌜ outcomeOf r p ≡ judgedBy (now (seg .entry)) (now (shared .entry)) (now (region .entry)) (regsOf r) (rowDecoded (opcode op) (now (seg .entry)) at) ⌝ }
 {
     match op {
@@ -69,23 +70,9 @@ fn act(
         // SLLA
         96..=103 => address(region, facts.floor, r, r.m, (op - 95) as u16, at),
         // SSTL
-        104..=111 => {
-            if few(region, r.sp, 1) {
-                return Planned::Bad(3);
-            }
-            store(region, r, r.m, (op - 103) as u16, at)
-        }
+        104..=111 => store(region, r, r.m, (op - 103) as u16, at),
         // SIND
-        120..=127 => {
-            if few(region, r.sp, 1) {
-                return Planned::Bad(3);
-            }
-            give_read(
-                r,
-                at,
-                read_at(region, shared, tos(region, r), (op - 120) as u16),
-            )
-        }
+        120..=127 => index(region, shared, r, (op - 120) as u16, at),
         // LDCB
         128 => {
             let Operand::Got { value: a, next } = operand::unsigned(seg, at) else {
@@ -150,7 +137,7 @@ fn act(
             if DEEPEST < d {
                 return Planned::Bad(2);
             }
-            let Link::Record(rec) = walk(region, r.m, d) else {
+            let Link::Record(rec) = record(region, r.m, d) else {
                 return Planned::Bad(9);
             };
             address(region, facts.floor, r, rec, a, next)
@@ -170,7 +157,7 @@ fn act(
             if DEEPEST < d {
                 return Planned::Bad(2);
             }
-            let Link::Record(rec) = walk(region, r.m, d) else {
+            let Link::Record(rec) = record(region, r.m, d) else {
                 return Planned::Bad(9);
             };
             load(region, facts.floor, r, rec, a, next)
@@ -190,26 +177,11 @@ fn act(
             jump(seg.len(), r, r.sp, next, a)
         }
         // MPI
-        140 => {
-            if few(region, r.sp, 2) {
-                return Planned::Bad(3);
-            }
-            give_two(r, at, word::mul(nos(region, r), tos(region, r)))
-        }
+        140 => two_words(region, r, at, Binary::Mpi),
         // DVI
-        141 => {
-            if few(region, r.sp, 2) {
-                return Planned::Bad(3);
-            }
-            quotient(r, at, nos(region, r), tos(region, r))
-        }
+        141 => divide(region, r, at, Division::Dvi),
         // MODI
-        143 => {
-            if few(region, r.sp, 2) {
-                return Planned::Bad(3);
-            }
-            remainder(r, at, nos(region, r), tos(region, r))
-        }
+        143 => divide(region, r, at, Division::Modi),
         // CPL
         144 => {
             let Operand::Got { value: a, next } = operand::unsigned(seg, at) else {
@@ -239,7 +211,7 @@ fn act(
             if DEEPEST < d {
                 return Planned::Bad(2);
             }
-            let Link::Record(rec) = walk(region, r.m, d) else {
+            let Link::Record(rec) = record(region, r.m, d) else {
                 return Planned::Bad(9);
             };
             call(r, a, rec, next, enter(seg, facts, r.sp, a))
@@ -256,41 +228,18 @@ fn act(
         // NOP
         156 => Planned::Move(r.sp, at),
         // LOR
-        160 => {
-            if few(region, r.sp, 2) {
-                return Planned::Bad(3);
-            }
-            give_two(r, at, compare::bit_or(nos(region, r), tos(region, r)))
-        }
+        160 => two_words(region, r, at, Binary::Lor),
         // LAND
-        161 => {
-            if few(region, r.sp, 2) {
-                return Planned::Bad(3);
-            }
-            give_two(r, at, compare::bit_and(nos(region, r), tos(region, r)))
-        }
+        161 => two_words(region, r, at, Binary::Land),
         // ADI
-        162 => {
-            if few(region, r.sp, 2) {
-                return Planned::Bad(3);
-            }
-            give_two(r, at, word::add(nos(region, r), tos(region, r)))
-        }
+        162 => two_words(region, r, at, Binary::Adi),
         // SBI
-        163 => {
-            if few(region, r.sp, 2) {
-                return Planned::Bad(3);
-            }
-            give_two(r, at, word::sub(nos(region, r), tos(region, r)))
-        }
+        163 => two_words(region, r, at, Binary::Sbi),
         // STL
         164 => {
             let Operand::Got { value: a, next } = operand::big(seg, at) else {
                 return Planned::Bad(1);
             };
-            if few(region, r.sp, 1) {
-                return Planned::Bad(3);
-            }
             store(region, r, r.m, a, next)
         }
         // SRO
@@ -298,9 +247,6 @@ fn act(
             let Operand::Got { value: a, next } = operand::big(seg, at) else {
                 return Planned::Bad(1);
             };
-            if few(region, r.sp, 1) {
-                return Planned::Bad(3);
-            }
             store(region, r, 1, a, next)
         }
         // STR
@@ -318,10 +264,10 @@ fn act(
             if DEEPEST < d {
                 return Planned::Bad(2);
             }
-            if few(region, r.sp, 1) {
+            if region.len() < r.sp + 1 {
                 return Planned::Bad(3);
             }
-            let Link::Record(rec) = walk(region, r.m, d) else {
+            let Link::Record(rec) = record(region, r.m, d) else {
                 return Planned::Bad(9);
             };
             store(region, r, rec, a, next)
@@ -331,7 +277,7 @@ fn act(
             let Operand::Got { value: a, next } = operand::big(seg, at) else {
                 return Planned::Bad(1);
             };
-            let Link::Record(rec) = walk(region, r.m, 1) else {
+            let Link::Record(rec) = record(region, r.m, 1) else {
                 return Planned::Bad(9);
             };
             load(region, facts.floor, r, rec, a, next)
@@ -341,80 +287,35 @@ fn act(
             let Operand::Got { value: a, next } = operand::big(seg, at) else {
                 return Planned::Bad(1);
             };
-            let Link::Record(rec) = walk(region, r.m, 2) else {
+            let Link::Record(rec) = record(region, r.m, 2) else {
                 return Planned::Bad(9);
             };
             load(region, facts.floor, r, rec, a, next)
         }
         // EQUI
-        176 => {
-            if few(region, r.sp, 2) {
-                return Planned::Bad(3);
-            }
-            give_two(r, at, compare::equal(nos(region, r), tos(region, r)))
-        }
+        176 => two_words(region, r, at, Binary::Equi),
         // NEQI
-        177 => {
-            if few(region, r.sp, 2) {
-                return Planned::Bad(3);
-            }
-            give_two(r, at, compare::differ(nos(region, r), tos(region, r)))
-        }
+        177 => two_words(region, r, at, Binary::Neqi),
         // LEQI
-        178 => {
-            if few(region, r.sp, 2) {
-                return Planned::Bad(3);
-            }
-            give_two(r, at, compare::leq(nos(region, r), tos(region, r)))
-        }
+        178 => two_words(region, r, at, Binary::Leqi),
         // GEQI
-        179 => {
-            if few(region, r.sp, 2) {
-                return Planned::Bad(3);
-            }
-            give_two(r, at, compare::geq(nos(region, r), tos(region, r)))
-        }
+        179 => two_words(region, r, at, Binary::Geqi),
         // LEUSW
-        180 => {
-            if few(region, r.sp, 2) {
-                return Planned::Bad(3);
-            }
-            give_two(r, at, compare::leu(nos(region, r), tos(region, r)))
-        }
+        180 => two_words(region, r, at, Binary::Leusw),
         // GEUSW
-        181 => {
-            if few(region, r.sp, 2) {
-                return Planned::Bad(3);
-            }
-            give_two(r, at, compare::geu(nos(region, r), tos(region, r)))
-        }
+        181 => two_words(region, r, at, Binary::Geusw),
         // SWAP
-        189 => {
-            if few(region, r.sp, 2) {
-                return Planned::Bad(3);
-            }
-            Planned::Swap(at, nos(region, r), tos(region, r))
-        }
+        189 => swap(region, r, at),
         // STO
-        196 => {
-            if few(region, r.sp, 2) {
-                return Planned::Bad(3);
-            }
-            store_at(region, r, at)
-        }
+        196 => store_at(region, r, at),
         // CHK
-        203 => {
-            if few(region, r.sp, 3) {
-                return Planned::Bad(3);
-            }
-            check_range(region, r, at)
-        }
+        203 => check_range(region, r, at),
         // FJP
         212 => {
             let Operand::Got { value: a, next } = operand::signed(seg, at) else {
                 return Planned::Bad(1);
             };
-            if few(region, r.sp, 1) {
+            if region.len() < r.sp + 1 {
                 return Planned::Bad(3);
             }
             branch(region, seg.len(), r, 0, next, a)
@@ -424,69 +325,36 @@ fn act(
             let Operand::Got { value: a, next } = operand::wide(seg, at) else {
                 return Planned::Bad(1);
             };
-            if few(region, r.sp, 1) {
+            if region.len() < r.sp + 1 {
                 return Planned::Bad(3);
             }
             branch(region, seg.len(), r, 0, next, a)
         }
         // ABI
-        224 => {
-            if few(region, r.sp, 1) {
-                return Planned::Bad(3);
-            }
-            give_one(r, at, word::mag(tos(region, r)))
-        }
+        224 => one_word(region, r, at, Unary::Abi),
         // NGI
-        225 => {
-            if few(region, r.sp, 1) {
-                return Planned::Bad(3);
-            }
-            give_one(r, at, word::neg(tos(region, r)))
-        }
+        225 => one_word(region, r, at, Unary::Ngi),
         // DUP1
-        226 => {
-            if few(region, r.sp, 1) {
-                return Planned::Bad(3);
-            }
-            push(facts.floor, r, at, tos(region, r))
-        }
+        226 => duplicate(region, facts.floor, r, at),
         // LNOT
-        229 => {
-            if few(region, r.sp, 1) {
-                return Planned::Bad(3);
-            }
-            give_one(r, at, compare::bit_not(tos(region, r)))
-        }
+        229 => one_word(region, r, at, Unary::Lnot),
         // IND
         230 => {
             let Operand::Got { value: a, next } = operand::big(seg, at) else {
                 return Planned::Bad(1);
             };
-            if few(region, r.sp, 1) {
-                return Planned::Bad(3);
-            }
-            give_read(r, next, read_at(region, shared, tos(region, r), a))
+            index(region, shared, r, a, next)
         }
         // INCI
-        237 => {
-            if few(region, r.sp, 1) {
-                return Planned::Bad(3);
-            }
-            give_one(r, at, word::inc(tos(region, r)))
-        }
+        237 => one_word(region, r, at, Unary::Inci),
         // DECI
-        238 => {
-            if few(region, r.sp, 1) {
-                return Planned::Bad(3);
-            }
-            give_one(r, at, word::dec(tos(region, r)))
-        }
+        238 => one_word(region, r, at, Unary::Deci),
         // SCPI1
         239 => {
             let Operand::Got { value: a, next } = operand::unsigned(seg, at) else {
                 return Planned::Bad(1);
             };
-            let Link::Record(rec) = walk(region, r.m, 1) else {
+            let Link::Record(rec) = record(region, r.m, 1) else {
                 return Planned::Bad(9);
             };
             call(r, a, rec, next, enter(seg, facts, r.sp, a))
@@ -496,7 +364,7 @@ fn act(
             let Operand::Got { value: a, next } = operand::unsigned(seg, at) else {
                 return Planned::Bad(1);
             };
-            let Link::Record(rec) = walk(region, r.m, 2) else {
+            let Link::Record(rec) = record(region, r.m, 2) else {
                 return Planned::Bad(9);
             };
             call(r, a, rec, next, enter(seg, facts, r.sp, a))
@@ -506,7 +374,7 @@ fn act(
             let Operand::Got { value: a, next } = operand::signed(seg, at) else {
                 return Planned::Bad(1);
             };
-            if few(region, r.sp, 1) {
+            if region.len() < r.sp + 1 {
                 return Planned::Bad(3);
             }
             branch(region, seg.len(), r, 1, next, a)
@@ -515,34 +383,25 @@ fn act(
     }
 }
 
-// The fault of a first byte that is not decoded.
-fn fault_number(d: Decode) -> u8
-    ensures { λ n. ⌜ n ≡ numberOf d ⌝ }
+// The first byte at the counter, or no byte of the code. That a counter is 22 or more is what every step keeps.
+fn decode(seg: &[u8], at: usize) -> Byte
+    requires { ⌜ 22 ≤ at ⌝ }
+    ensures { λ r. ⌜ r ≡ firstOf (now (seg .entry)) at ⌝ }
 {
-    match d {
-        Decode::Decoded(_) => 0,
-        Decode::Outside => 1,
-        Decode::Uncarried => 2,
+    if seg.len() <= at {
+        return Byte::Outside;
     }
+    Byte::Decoded(seg[at])
 }
 
-// What the next step does: the first byte is judged for 1 and 2, then its operands are fetched and the rest is judged in order.
-pub fn judge(
-    seg: &[u8],
-    t: &[u32; 256],
-    facts: Facts,
-    region: &[u16],
-    shared: &[u16],
-    r: Regs,
-) -> Planned
-    requires { ⌜ (Loaded (now seg)) × ((Told (now seg) facts) × (Agrees (now t))) ⌝ }
-    requires { ⌜ (Ranged (now seg) (length (now region)) (regsOf r)) × (length (now region) ≤ 32768) ⌝ }
-    requires { ⌜ length (now shared) ≤ 32768 ⌝ }
+// What the next step does: the first byte is judged for 1 and 2, then its operands are fetched and the rest is judged in order. Fault 2 is
+// the last arm of `act`, which fetches nothing.
+pub fn judge(seg: &[u8], facts: Facts, region: &[u16], shared: &[u16], r: Regs) -> Planned
+    requires { ⌜ Ready (now seg) facts (now shared) (now region) r ⌝ }
     ensures { λ p. ⌜ outcomeOf r p ≡ Step·judge (now (seg .entry)) (now (shared .entry)) (now (region .entry)) (regsOf r) ⌝ }
 {
-    let first = opcodes::decoded(seg, t, r.counter);
-    let Decode::Decoded(op) = first else {
-        return Planned::Bad(fault_number(first));
+    let Byte::Decoded(op) = decode(seg, r.counter) else {
+        return Planned::Bad(1);
     };
     act(seg, facts, region, shared, r, op, r.counter + 1)
 }

@@ -27,9 +27,9 @@ pub struct Turned {
     pub done: usize,
 }
 
-// Stack pointer, record pointer, counter and routine after a step; a fault; or the end.
+// The registers after a step; a fault; or the end.
 pub enum Stepped {
-    Went(usize, usize, usize, usize),
+    Went(Regs),
     Stuck(u8),
     Ended,
 }

@@ -10,7 +10,6 @@ ghost use lib.ListN.{length, take};
 ghost use Rattle.basis.specs.Part.{part};
 ghost use Rattle.pmachine.specs.Step.{judge};
 ghost use Rattle.pmachine.specs.Sound.{Loaded, Ranged};
-ghost use Rattle.opcodes.specs.Packed.{Agrees};
 ghost use Rattle.plan.specs.Answer.{regsOf, outcomeOf};
 ghost use Rattle.plan.specs.Told.{Told};
 ghost use Rattle.machine.specs.Memory.{Placed, Stood};
@@ -22,16 +21,25 @@ fn judge_in(
     end: usize,
     s: usize,
     seg: &[u8],
-    t: &[u32; 256],
     facts: Facts,
     r: Regs,
 ) -> Planned
     requires { ⌜ Placed (length (now mem)) at end s ⌝ }
-    requires { ⌜ (Loaded (now seg)) × ((Told (now seg) facts) × (Agrees (now t))) ⌝ }
+    requires { ⌜ (Loaded (now seg)) × (Told (now seg) facts) ⌝ }
     requires { ⌜ Ranged (now seg) (end - at) (regsOf r) ⌝ }
     ensures { λ p. ⌜ outcomeOf r p ≡ judge (now (seg .entry)) (take s (now (mem .entry))) (part at end (now (mem .entry))) (regsOf r) ⌝ }
 {
-    judge::judge(seg, t, facts, &mem[at..end], &mem[..s], r)
+    judge::judge(seg, facts, &mem[at..end], &mem[..s], r)
+}
+
+// The registers with another stack pointer and counter, in the same record and routine.
+fn moved(r: Regs, sp: usize, counter: usize) -> Regs {
+    Regs {
+        sp,
+        m: r.m,
+        counter,
+        routine: r.routine,
+    }
 }
 
 pub fn step(
@@ -40,31 +48,44 @@ pub fn step(
     end: usize,
     s: usize,
     seg: &[u8],
-    t: &[u32; 256],
     facts: Facts,
     r: Regs,
 ) -> Stepped
     requires { ⌜ Placed (length (now mem)) at end s ⌝ }
-    requires { ⌜ (Loaded (now seg)) × ((Told (now seg) facts) × (Agrees (now t))) ⌝ }
+    requires { ⌜ (Loaded (now seg)) × (Told (now seg) facts) ⌝ }
     requires { ⌜ Ranged (now seg) (end - at) (regsOf r) ⌝ }
     ensures { λ q. ⌜ Stood (regsOf r) (judge (now (seg .entry)) (take s (now (mem .entry))) (part at end (now (mem .entry))) (regsOf r)) at end (now (mem .entry)) q (now (mem .exit)) ⌝ }
 {
-    match judge_in(mem, at, end, s, seg, t, facts, r) {
-        Planned::Move(sp, next) => Stepped::Went(sp, r.m, next, r.routine),
-        Planned::Put(sp, next, place, v) => {
+    match judge_in(mem, at, end, s, seg, facts, r) {
+        Planned::Move(sp, next) => Stepped::Went(moved(r, sp, next)),
+        Planned::Put(v, sp, next, place) => {
             commit::put_word(mem, at, end, place, v);
-            Stepped::Went(sp, r.m, next, r.routine)
+            Stepped::Went(moved(r, sp, next))
         }
-        Planned::Swap(next, x, y) => {
+        Planned::Top(v, sp, next) => {
+            commit::put_word(mem, at, end, sp, v);
+            Stepped::Went(moved(r, sp, next))
+        }
+        Planned::Swap(x, y, next) => {
             commit::put_pair(mem, at, end, r.sp, x, y);
-            Stepped::Went(r.sp, r.m, next, r.routine)
+            Stepped::Went(moved(r, r.sp, next))
         }
-        Planned::Call(sp, counter, k, parent, next) => {
+        Planned::Call(parent, next, sp, counter, k) => {
             let mark = commit::mark(parent, r.m as u16, next, r.routine as u16);
             commit::put_mark(mem, at, end, sp, mark);
-            Stepped::Went(sp, sp, counter, k)
+            Stepped::Went(Regs {
+                sp,
+                m: sp,
+                counter,
+                routine: k,
+            })
         }
-        Planned::Back(sp, m, counter, k) => Stepped::Went(sp, m, counter, k),
+        Planned::Back(sp, m, counter, routine) => Stepped::Went(Regs {
+            sp,
+            m,
+            counter,
+            routine,
+        }),
         Planned::Bad(n) => Stepped::Stuck(n),
         Planned::Finish => Stepped::Ended,
     }

@@ -64,63 +64,30 @@ fn run(
     requires { ⌜ Ranged (now seg) (end - at) (regsOf start) ⌝ }
     ensures { λ t. ⌜ TurnedTo (now (seg .entry)) (now (mem .entry)) s at end k (regsOf start) ready t (now (mem .exit)) ⌝ }
 {
-    let table = opcodes::table();
-    let mut sp = start.sp;
-    let mut m = start.m;
-    let mut counter = start.counter;
-    let mut routine = start.routine;
-    let mut done: usize = 0;
-    while done < k {
-        match step(
-            mem,
-            at,
-            end,
-            s,
-            seg,
-            &table,
-            facts,
-            Regs {
-                sp,
-                m,
-                counter,
-                routine,
-            },
-        ) {
-            Stepped::Went(a, b, c, d) => {
-                sp = a;
-                m = b;
-                counter = c;
-                routine = d;
-                done += 1;
+    let mut now = start;
+    let mut left = k;
+    while 0 < left {
+        match step(mem, at, end, s, seg, facts, now) {
+            Stepped::Went(next) => {
+                now = next;
+                left -= 1;
             }
             Stepped::Stuck(n) => {
-                let cpu = Cpu {
-                    kind: Kind::Faulted(n, counter),
-                    regs: Regs {
-                        sp,
-                        m,
-                        counter,
-                        routine,
-                    },
-                };
                 return Turned {
-                    cpu,
-                    done: done + 1,
+                    cpu: Cpu {
+                        kind: Kind::Faulted(n, now.counter),
+                        regs: now,
+                    },
+                    done: k - left + 1,
                 };
             }
             Stepped::Ended => {
-                let cpu = Cpu {
-                    kind: Kind::Finished,
-                    regs: Regs {
-                        sp,
-                        m,
-                        counter,
-                        routine,
-                    },
-                };
                 return Turned {
-                    cpu,
-                    done: done + 1,
+                    cpu: Cpu {
+                        kind: Kind::Finished,
+                        regs: now,
+                    },
+                    done: k - left + 1,
                 };
             }
         }
@@ -128,14 +95,9 @@ fn run(
     Turned {
         cpu: Cpu {
             kind: Kind::Ready,
-            regs: Regs {
-                sp,
-                m,
-                counter,
-                routine,
-            },
+            regs: now,
         },
-        done,
+        done: k,
     }
 }
 

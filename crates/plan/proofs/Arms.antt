@@ -13,17 +13,16 @@ use Rattle.pmachine.specs.State.{Registers}
 use Rattle.pmachine.specs.Meaning.{Whose, globals, up, Meaning, constant, pool-offset, load, address, store, index, indirect, unary, binary, division, duplicate, swap, nothing, subrange, jump, jump-if, call, return}
 use Rattle.pmachine.specs.Opcode.{Row, carried, uncarried, opcode, rowIn, appendixB}
 use Rattle.pmachine.specs.Decoding.{rowDecoded}
-use Rattle.pmachine.specs.Step.{Outcome, fault, goes, moved, reached, reaches, broken, outcome, judgedBy}
+use Rattle.pmachine.specs.Step.{Outcome, fault, goes, floor, moved, reached, reaches, broken, outcome, judgedBy}
 use Rattle.pmachine.specs.Sound.{Ranged}
 use Rattle.pmachine.proofs.Rows.{numbers, at-number}
 use Rattle.plan.specs.declared.Regs.{Regs}
 use Rattle.plan.specs.declared.Facts.{Facts}
-use Rattle.plan.specs.declared.Planned.the-variants.{Move, Swap, Bad}
-use Rattle.plan.specs.declared.Read.{Read}
+use Rattle.plan.specs.declared.Planned.the-variants.{Move, Bad}
 use Rattle.plan.specs.declared.Entry.{Entry}
 use Rattle.plan.specs.Answer.{regsOf, outcomeOf}
-use Rattle.plan.specs.Mirror.{pushed, one, two, gives, divided, checked, loaded, addressed, stored, readAt, storedAt, pooled, jumped, branched, entered, called, returned}
-use Rattle.plan.specs.Told.{Told}
+use Rattle.plan.specs.Mirror.{lack, pushed, swapped, one, two, gives, divided, checked, loaded, addressed, stored, readAt, storedAt, pooled, jumped, branched, entered, called, returned}
+use Rattle.plan.specs.Told.{Ready}
 use Rattle.plan.proofs.Meanings.{instr, few-words, is-constant, is-duplicate, is-nothing, is-swap, is-unary, is-binary, is-division, is-load, is-address, is-store, no-load, no-address, no-store, no-call, is-pool, is-indirect, is-subrange, is-jump, is-branch, is-index, is-call, is-return}
 
 -- ---- rows
@@ -148,94 +147,104 @@ pub moves : (q : Regs) (sp n : ℕ) → outcomeOf q (Move sp n) ≡ goes (moved 
 unfolding outcomeOf
 moves q sp n = refl
 
-pub swaps : (q : Regs) (n x y : ℕ) → outcomeOf q (Swap n x y) ≡ goes (moved (regsOf q) (q .sp) n) (q .sp) (x ∷ y ∷ [])
-unfolding outcomeOf
-swaps q n x y = refl
-
--- ---- the words on the stack, as `few` tells
-
-pub enough : (w : List ℕ) (sp t : ℕ) (b : Bool) → b ≡ ltb (length w) (sp + t) → b ≡ false → sp + t ≤ length w
-enough w sp t b e q = ltb-false (length w) (sp + t) (sym e ∙ q)
-
 -- ---- the arms
 
-module _ (s shared w : List ℕ) (r : Registers) (h : Ranged s (length w) r) (small : length w ≤ 32768) (f : Facts) (t : Told s f) (n : ℕ) (P : Outcome) where
-  pub lacks : (m : Meaning) (k g : ℕ) (b : Bool) → P ≡ fault 3 → b ≡ ltb (length w) (r .sp + k) → b ≡ true → P ≡ outcome s shared w r (instr m k g n)
-  lacks m k g b e a q = e ∙ sym (few-words s shared w r h small n m k g (ltb-true (length w) (r .sp + k) (sym a ∙ q)))
+module _ {s shared w : List ℕ} {q : Regs} {f : Facts} (ready : Ready s f shared w q) (n : ℕ) where
+  abbrev r : Registers
+  r = regsOf q
 
-  pub con : (v x : ℕ) → P ≡ pushed (f .floor) r n v → v ≡ x → P ≡ outcome s shared w r (instr (constant x) 0 1 n)
-  con v x e b = e ∙ (rw (t .floors, b) (sym (is-constant s shared w r h small n x)))
+  -- the outcome of a meaning that takes t words and gives g
+  abbrev Is : Meaning → ℕ → ℕ → Outcome → Type 0
+  Is m t g X = X ≡ outcome s shared w r (instr m t g n)
 
-  pub pol : (b : ℕ) → P ≡ pooled (words s) (f .pool) (f .floor) r n b → P ≡ outcome s shared w r (instr (pool-offset b) 0 1 n)
-  pol b e = e ∙ (rw (t .floors, t .pools) (sym (is-pool s shared w r h small n b)))
+  abbrev h : Ranged s (length w) r
+  h = ready .ranged
 
-  pub bin : (op : ℕ → ℕ → ℕ) (v x y : ℕ) → P ≡ two r n v → v ≡ op x y → x ≡ getD w (r .sp + 1) 0 → y ≡ getD w (r .sp) 0 → r .sp + 2 ≤ length w
-      → P ≡ outcome s shared w r (instr (binary op) 2 1 n)
-  bin op v x y e a b d k = e ∙ (rw (a, b, d) (sym (is-binary s shared w r h small n op k)))
+  abbrev small : length w ≤ 32768
+  small = ready .small
 
-  pub un : (op : ℕ → ℕ) (v x : ℕ) → P ≡ one r n v → v ≡ op x → x ≡ getD w (r .sp) 0 → r .sp + 1 ≤ length w
-      → P ≡ outcome s shared w r (instr (unary op) 1 1 n)
-  un op v x e a b k = e ∙ (rw (a, b) (sym (is-unary s shared w r h small n op k)))
+  abbrev floors : f .floor ≡ floor s
+  floors = ready .told .floors
 
-  pub div : (op : ℕ → ℕ → ℕ) (x y : ℕ) → P ≡ divided op r n x y → x ≡ getD w (r .sp + 1) 0 → y ≡ getD w (r .sp) 0 → r .sp + 2 ≤ length w
-      → P ≡ outcome s shared w r (instr (division op) 2 1 n)
-  div op x y e b d k = e ∙ (rw (b, d) (sym (is-division s shared w r h small n op k)))
+  module _ {P : Outcome} where
+    -- with the words that it takes, or too few of them
+    taken : (m : Meaning) (k g : ℕ) {X : Outcome} → (r .sp + k ≤ length w → outcome s shared w r (instr m k g n) ≡ X) → P ≡ lack k w r X → Is m k g P
+    unfolding lack
+    taken m k g {X} is e = go (ltb (length w) (r .sp + k)) refl
+      where
+        go : (b : Bool) → ltb (length w) (r .sp + k) ≡ b → Is m k g P
+        go true q = e ∙ rw q (sym (few-words s shared w r h small n m k g (ltb-true _ _ q)))
+        go false q = e ∙ rw q (sym (is (ltb-false _ _ q)))
 
-  pub dup : (x : ℕ) → P ≡ pushed (f .floor) r n x → x ≡ getD w (r .sp) 0 → r .sp + 1 ≤ length w
-      → P ≡ outcome s shared w r (instr duplicate 1 2 n)
-  dup x e b k = e ∙ (rw (t .floors, b) (sym (is-duplicate s shared w r h small n k)))
+    pub lacks : (m : Meaning) (k g : ℕ) → P ≡ fault 3 → length w < r .sp + k → Is m k g P
+    lacks m k g e q = e ∙ sym (few-words s shared w r h small n m k g q)
 
-  pub swp : (x y : ℕ) → P ≡ goes (moved r (r .sp) n) (r .sp) (x ∷ y ∷ []) → x ≡ getD w (r .sp + 1) 0 → y ≡ getD w (r .sp) 0 → r .sp + 2 ≤ length w
-      → P ≡ outcome s shared w r (instr swap 2 2 n)
-  swp x y e a b k = e ∙ (rw (a, b) (sym (is-swap s shared w r h small n k)))
+    pub con : (v : ℕ) → P ≡ pushed (f .floor) r n v → Is (constant v) 0 1 P
+    con v e = e ∙ (rw floors (sym (is-constant s shared w r h small n v)))
 
-  pub nop : P ≡ goes (moved r (r .sp) n) (r .sp) [] → P ≡ outcome s shared w r (instr nothing 0 0 n)
-  nop e = e ∙ sym (is-nothing s shared w r h small n)
+    pub pol : (b : ℕ) → P ≡ pooled (words s) (f .pool) (f .floor) r n b → Is (pool-offset b) 0 1 P
+    pol b e = e ∙ (rw (floors, ready .told .pools) (sym (is-pool s shared w r h small n b)))
 
-  pub chk : P ≡ checked w r n → r .sp + 3 ≤ length w → P ≡ outcome s shared w r (instr subrange 3 1 n)
-  chk e k = e ∙ sym (is-subrange s shared w r h small n k)
+    pub bin : (op : ℕ → ℕ → ℕ) → P ≡ lack 2 w r (two r n (op (getD w (r .sp + 1) 0) (getD w (r .sp) 0))) → Is (binary op) 2 1 P
+    bin op = taken (binary op) 2 1 (is-binary s shared w r h small n op)
 
-  pub sta : P ≡ storedAt w r n → r .sp + 2 ≤ length w → P ≡ outcome s shared w r (instr indirect 2 0 n)
-  sta e k = e ∙ sym (is-indirect s shared w r h small n k)
+    pub un : (op : ℕ → ℕ) → P ≡ lack 1 w r (one r n (op (getD w (r .sp) 0))) → Is (unary op) 1 1 P
+    un op = taken (unary op) 1 1 (is-unary s shared w r h small n op)
 
-  pub ind : (i j b : ℕ) (v : Read) → P ≡ gives r n v → v ≡ readAt w shared b j → j ≡ i → b ≡ getD w (r .sp) 0 → length shared ≤ 32768
-      → r .sp + 1 ≤ length w → P ≡ outcome s shared w r (instr (index i) 1 1 n)
-  ind i j b v e a c d g k = e ∙ (rw (a, c, d) (sym (is-index s shared w r h small n i g k)))
+    pub div : (op : ℕ → ℕ → ℕ) → P ≡ lack 2 w r (divided op r n (getD w (r .sp + 1) 0) (getD w (r .sp) 0)) → Is (division op) 2 1 P
+    div op = taken (division op) 2 1 (is-division s shared w r h small n op)
 
-  pub lod : (p : Whose) (rec v x : ℕ) → reached w (r .m) p ≡ reaches rec → P ≡ loaded w (f .floor) r rec v n → v ≡ x
-      → P ≡ outcome s shared w r (instr (load p x) 0 1 n)
-  lod p rec v x l e b = e ∙ (rw (t .floors, b) (sym (is-load s shared w r h small n p rec x l)))
+    pub dup : P ≡ lack 1 w r (pushed (f .floor) r n (getD w (r .sp) 0)) → Is duplicate 1 2 P
+    dup e = taken duplicate 1 2 (is-duplicate s shared w r h small n) (rw floors at e)
 
-  pub adr : (p : Whose) (rec v x : ℕ) → reached w (r .m) p ≡ reaches rec → P ≡ addressed w (f .floor) r rec v n → v ≡ x
-      → P ≡ outcome s shared w r (instr (address p x) 0 1 n)
-  adr p rec v x l e b = e ∙ (rw (t .floors, b) (sym (is-address s shared w r h small n p rec x l)))
+    pub swp : P ≡ lack 2 w r (swapped w r n) → Is swap 2 2 P
+    swp = taken swap 2 2 (is-swap s shared w r h small n)
 
-  pub sto : (p : Whose) (rec v x : ℕ) → reached w (r .m) p ≡ reaches rec → P ≡ stored w r rec v n → v ≡ x → r .sp + 1 ≤ length w
-      → P ≡ outcome s shared w r (instr (store p x) 1 0 n)
-  sto p rec v x l e b k = e ∙ (rw b (sym (is-store s shared w r h small n p rec x l k)))
+    pub nop : P ≡ goes (moved r (r .sp) n) (r .sp) [] → Is nothing 0 0 P
+    nop e = e ∙ sym (is-nothing s shared w r h small n)
 
-  pub jmp : (d : ℕ) → P ≡ jumped (length s) r (r .sp) n d → P ≡ outcome s shared w r (instr (jump d) 0 0 n)
-  jmp d e = e ∙ sym (is-jump s shared w r h small n d)
+    pub chk : P ≡ lack 3 w r (checked w r n) → Is subrange 3 1 P
+    chk = taken subrange 3 1 (is-subrange s shared w r h small n)
 
-  pub bra : (want d : ℕ) → P ≡ branched w (length s) r want n d → r .sp + 1 ≤ length w → P ≡ outcome s shared w r (instr (jump-if want d) 1 0 n)
-  bra want d e k = e ∙ sym (is-branch s shared w r h small n want d k)
+    pub sta : P ≡ lack 2 w r (storedAt w r n) → Is indirect 2 0 P
+    sta = taken indirect 2 0 (is-indirect s shared w r h small n)
 
-  pub cal : (p : Whose) (rec k : ℕ) (x : Entry) → reached w (r .m) p ≡ reaches rec → P ≡ called r k rec n x → x ≡ entered s (r .sp) k
-      → P ≡ outcome s shared w r (instr (call p k) 0 0 n)
-  cal p rec k x l e b = e ∙ (rw b (sym (is-call s shared w r h small n p rec k l)))
+    pub ind : (i : ℕ) → P ≡ lack 1 w r (gives r n (readAt w shared (getD w (r .sp) 0) i)) → Is (index i) 1 1 P
+    ind i = taken (index i) 1 1 (is-index s shared w r h small n i (ready .few))
 
-  pub ret : (b : ℕ) → P ≡ returned (length s) (f .count) (f .floor) w r b → P ≡ outcome s shared w r (instr (return b) 0 0 n)
-  ret b e = e ∙ (rw (t .floors, t .counts) (sym (is-return s shared w r h small n b)))
+    -- a word of a record that is found
+    module _ (p : Whose) {rec : ℕ} (l : reached w (r .m) p ≡ reaches rec) (x : ℕ) where
+      pub lod : P ≡ loaded w (f .floor) r rec x n → Is (load p x) 0 1 P
+      lod e = e ∙ (rw floors (sym (is-load s shared w r h small n p rec x l)))
 
-  -- a bad link
-  pub bad-lod : (p : Whose) (x : ℕ) → P ≡ fault 9 → reached w (r .m) p ≡ broken → P ≡ outcome s shared w r (instr (load p x) 0 1 n)
-  bad-lod p x e l = e ∙ sym (no-load s shared w r h small n p x l)
+      pub adr : P ≡ addressed w (f .floor) r rec x n → Is (address p x) 0 1 P
+      adr e = e ∙ (rw floors (sym (is-address s shared w r h small n p rec x l)))
 
-  pub bad-adr : (p : Whose) (x : ℕ) → P ≡ fault 9 → reached w (r .m) p ≡ broken → P ≡ outcome s shared w r (instr (address p x) 0 1 n)
-  bad-adr p x e l = e ∙ sym (no-address s shared w r h small n p x l)
+      pub sto : P ≡ lack 1 w r (stored w r rec x n) → Is (store p x) 1 0 P
+      sto = taken (store p x) 1 0 (is-store s shared w r h small n p rec x l)
 
-  pub bad-sto : (p : Whose) (x : ℕ) → P ≡ fault 9 → reached w (r .m) p ≡ broken → r .sp + 1 ≤ length w → P ≡ outcome s shared w r (instr (store p x) 1 0 n)
-  bad-sto p x e l k = e ∙ sym (no-store s shared w r h small n p x l k)
+      pub cal : {e : Entry} → P ≡ called r x rec n e → e ≡ entered s (r .sp) x → Is (call p x) 0 0 P
+      cal a b = a ∙ (rw b (sym (is-call s shared w r h small n p rec x l)))
 
-  pub bad-cal : (p : Whose) (k : ℕ) → P ≡ fault 9 → reached w (r .m) p ≡ broken → P ≡ outcome s shared w r (instr (call p k) 0 0 n)
-  bad-cal p k e l = e ∙ sym (no-call s shared w r h small n p k l)
+    -- a bad link
+    module _ (p : Whose) (l : reached w (r .m) p ≡ broken) (x : ℕ) (e : P ≡ fault 9) where
+      pub bad-lod : Is (load p x) 0 1 P
+      bad-lod = e ∙ sym (no-load s shared w r h small n p x l)
+
+      pub bad-adr : Is (address p x) 0 1 P
+      bad-adr = e ∙ sym (no-address s shared w r h small n p x l)
+
+      pub bad-sto : r .sp + 1 ≤ length w → Is (store p x) 1 0 P
+      bad-sto k = e ∙ sym (no-store s shared w r h small n p x l k)
+
+      pub bad-cal : Is (call p x) 0 0 P
+      bad-cal = e ∙ sym (no-call s shared w r h small n p x l)
+
+    pub jmp : (d : ℕ) → P ≡ jumped (length s) r (r .sp) n d → Is (jump d) 0 0 P
+    jmp d e = e ∙ sym (is-jump s shared w r h small n d)
+
+    pub bra : (want d : ℕ) → r .sp + 1 ≤ length w → P ≡ branched w (length s) r want n d → Is (jump-if want d) 1 0 P
+    bra want d k e = e ∙ sym (is-branch s shared w r h small n want d k)
+
+    pub ret : (b : ℕ) → P ≡ returned (length s) (f .count) (f .floor) w r b → Is (return b) 0 0 P
+    ret b e = e ∙ (rw (floors, ready .told .counts) (sym (is-return s shared w r h small n b)))

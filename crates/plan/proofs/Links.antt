@@ -1,18 +1,19 @@
--- A mark in order, and where a routine is entered, as the code reads them.
--- Above: the proofs of enter and in_order; below: Step of `pmachine`, and what Facts tell.
-use mathlib.Core.Path.{_≡_, ap, _∙_}
+-- A mark in order, where a routine is entered, and the walk of links, as the code reads them.
+-- Above: the proofs of enter, in_order and walk; below: Step of `pmachine`, and what Facts tell.
+use mathlib.Core.Path.{_≡_, refl, ap, sym, _∙_}
 use mathlib.Core.List.{List}
 use mathlib.Core.Bool.{Bool, true, false, cond}
-use Prim.Native.Nat.{ℕ, suc, _+_, _-_, _*_, _≤_}
+use Prim.Native.Nat.{ℕ, suc, _+_, _-_, _*_, _<_, _≤_}
 use native.Mathlib.Omega.{arith}
-use borrow.Author.Tests.{le-leb, eq-eqb, ne-eqb}
+use borrow.Author.Tests.{le-leb, leb-true, eq-eqb, ne-eqb}
 use lib.Dec.{ltb, leb, eqb}
-use lib.ListN.{getD}
+use lib.ListN.{length, getD}
 use Rattle.basis.specs.Bools.{inside}
-use Rattle.basis.proofs.Bools.{leb-iff}
+use Rattle.basis.proofs.Bools.{leb-iff, and-snd}
 use Rattle.operand.specs.Bytes.{wordBy}
 use Rattle.segment.specs.Head.{least, word, dict, count, entry, datasize, start}
-use Rattle.pmachine.specs.Step.{floor}
+use Rattle.pmachine.specs.Step.{floor, pointer, reaches, broken, follow}
+use Rattle.pmachine.proofs.Links.{follow-more}
 use Rattle.plan.specs.declared.Facts.{Facts}
 use Rattle.plan.specs.declared.Entry.the-variants.{To, Not}
 use Rattle.plan.specs.Mirror.{entered, inOrder}
@@ -72,3 +73,33 @@ module _ (s : List ℕ) (f : Facts) (t : Told s f) where
       let j = size-told k e z i b in
       let d : sp - (5 + datasize s k) ≡ sp - 5 - datasize s k = omega arith in
       rw (t .counts, t .floors, i, j, d)
+
+-- ---- one link, and then the rest
+
+module _ (w : List ℕ) (m : ℕ) where
+  one-link : follow w m 1 ≡ cond (pointer w (getD w m 0)) (reaches (getD w m 0)) broken
+  unfolding follow
+  one-link = refl
+
+  pub one-more : (d up : ℕ) → (d ≡ 0 → ⊥) → follow w m 1 ≡ reaches up → follow w m d ≡ follow w up (d - 1)
+  one-more d up h e = follow-more w m d h ∙ go (pointer w (getD w m 0)) (sym one-link ∙ e)
+    where
+      go : (b : Bool) → cond b (reaches (getD w m 0)) broken ≡ reaches up → cond b (follow w (getD w m 0) (d - 1)) broken ≡ follow w up (d - 1)
+      go true q = let z : getD w m 0 ≡ up = cc in rw z
+      go false q = let z : _≡_ {A = ℕ} 0 1 = cc in absurd (omega arith)
+
+  pub one-broken : (d : ℕ) → (d ≡ 0 → ⊥) → follow w m 1 ≡ broken → follow w m d ≡ broken
+  one-broken d h e = follow-more w m d h ∙ go (pointer w (getD w m 0)) (sym one-link ∙ e)
+    where
+      go : (b : Bool) → cond b (reaches (getD w m 0)) broken ≡ broken → cond b (follow w (getD w m 0) (d - 1)) broken ≡ broken
+      go true q = let z : _≡_ {A = ℕ} 0 1 = cc in absurd (omega arith)
+      go false q = refl
+
+  pub one-inside : (up : ℕ) → follow w m 1 ≡ reaches up → up < length w
+  one-inside up e = go (pointer w (getD w m 0)) refl (sym one-link ∙ e)
+    where
+      go : (b : Bool) → pointer w (getD w m 0) ≡ b → cond b (reaches (getD w m 0)) broken ≡ reaches up → up < length w
+      go true p q =
+          let z : getD w m 0 ≡ up = cc in
+          omega (arith, z, leb-true (getD w m 0 + 5) (length w) (and-snd (leb 1 (getD w m 0)) (leb (getD w m 0 + 5) (length w)) p))
+      go false p q = let z : _≡_ {A = ℕ} 0 1 = cc in absurd (omega arith)

@@ -6,7 +6,7 @@ use Rattle.pmachine.specs.State.{Registers}
 use Rattle.pmachine.specs.Step.{Outcome, fault, finish, goes, moved, Link as Linked, reaches, broken}
 use Rattle.plan.specs.declared.Regs.{Regs}
 use Rattle.plan.specs.declared.Planned.{Planned}
-use Rattle.plan.specs.declared.Planned.the-variants.{Move, Put, Swap, Call, Back, Bad, Finish}
+use Rattle.plan.specs.declared.Planned.the-variants.{Move, Put, Top, Swap, Call, Back, Bad, Finish}
 use Rattle.plan.specs.declared.Link.{Link}
 use Rattle.plan.specs.declared.Link.the-variants.{Record, Broken}
 
@@ -20,9 +20,10 @@ linkOf Broken = broken
 -- the outcome that an answer tells, of a step from r
 unfoldable pub outcomeOf : Regs → Planned → Outcome
 outcomeOf r (Move sp next) = goes (moved (regsOf r) sp next) sp []
-outcomeOf r (Put sp next at v) = goes (moved (regsOf r) sp next) at (v ∷ [])
-outcomeOf r (Swap next x y) = goes (moved (regsOf r) (r .sp) next) (r .sp) (x ∷ y ∷ [])
-outcomeOf r (Call sp counter k parent next) =
+outcomeOf r (Put v sp next at) = goes (moved (regsOf r) sp next) at (v ∷ [])
+outcomeOf r (Top v sp next) = goes (moved (regsOf r) sp next) sp (v ∷ [])
+outcomeOf r (Swap x y next) = goes (moved (regsOf r) (r .sp) next) (r .sp) (x ∷ y ∷ [])
+outcomeOf r (Call parent next sp counter k) =
     goes (record { sp = sp; m = sp; counter = counter; routine = k }) sp (parent ∷ r .m ∷ next ∷ 1 ∷ r .routine ∷ [])
 outcomeOf r (Back sp m counter k) = goes (record { sp = sp; m = m; counter = counter; routine = k }) (r .sp) []
 outcomeOf r (Bad n) = fault n

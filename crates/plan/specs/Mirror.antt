@@ -6,16 +6,26 @@ use mathlib.Core.Bool.{Bool, _&&_, cond}
 use lib.ListN.{length, getD}
 use lib.Dec.{ltb, leb, eqb}
 use Rattle.basis.specs.Bools.{inside}
-use Rattle.basis.specs.Integer.{leqOf}
+use Rattle.basis.specs.Integer.{addOf, subOf, mulOf, negOf, incOf, decOf, magOf, quotOf, remOf, eqOf, neOf, leqOf, geqOf, leuOf, geuOf, andOf, orOf, notOf}
 use Rattle.segment.specs.Head.{count, datasize, start}
 use Rattle.pmachine.specs.State.{Registers}
 use Rattle.pmachine.specs.Step.{Outcome, fault, finish, goes, moved, floor, newRecord, target, markAt}
+use Rattle.plan.specs.declared.Unary.{Unary}
+use Rattle.plan.specs.declared.Unary.the-variants.{Abi, Ngi, Lnot, Inci, Deci}
+use Rattle.plan.specs.declared.Binary.{Binary}
+use Rattle.plan.specs.declared.Binary.the-variants.{Mpi, Lor, Land, Adi, Sbi, Equi, Neqi, Leqi, Geqi, Leusw, Geusw}
+use Rattle.plan.specs.declared.Division.{Division}
+use Rattle.plan.specs.declared.Division.the-variants.{Dvi, Modi}
 use Rattle.plan.specs.declared.Read.{Read}
 use Rattle.plan.specs.declared.Read.the-variants.{Value, Missing}
 use Rattle.plan.specs.declared.Entry.{Entry}
 use Rattle.plan.specs.declared.Entry.the-variants.{To, Not}
 
 -- ---- words on the stack
+
+-- fewer than k words on the stack, or what is done with them
+unfoldable pub lack : ℕ → List ℕ → Registers → Outcome → Outcome
+lack k w r done = cond (ltb (length w) (r .sp + k)) (fault 3) done
 
 unfoldable pub pushed : ℕ → Registers → ℕ → ℕ → Outcome
 pushed low r next v =
@@ -26,6 +36,33 @@ one r next v = goes (moved r (r .sp) next) (r .sp) (v ∷ [])
 
 abbrev pub two : Registers → ℕ → ℕ → Outcome
 two r next v = goes (moved r (r .sp + 1) next) (r .sp + 1) (v ∷ [])
+
+abbrev pub swapped : List ℕ → Registers → ℕ → Outcome
+swapped w r next = goes (moved r (r .sp) next) (r .sp) (getD w (r .sp + 1) 0 ∷ getD w (r .sp) 0 ∷ [])
+
+abbrev pub oneOf : Unary → ℕ → ℕ
+oneOf Abi = magOf
+oneOf Ngi = negOf
+oneOf Lnot = notOf
+oneOf Inci = incOf
+oneOf Deci = decOf
+
+abbrev pub twoOf : Binary → ℕ → ℕ → ℕ
+twoOf Mpi = mulOf
+twoOf Lor = orOf
+twoOf Land = andOf
+twoOf Adi = addOf
+twoOf Sbi = subOf
+twoOf Equi = eqOf
+twoOf Neqi = neOf
+twoOf Leqi = leqOf
+twoOf Geqi = geqOf
+twoOf Leusw = leuOf
+twoOf Geusw = geuOf
+
+abbrev pub divisionOf : Division → ℕ → ℕ → ℕ
+divisionOf Dvi = quotOf
+divisionOf Modi = remOf
 
 unfoldable pub gives : Registers → ℕ → Read → Outcome
 gives r next (Value v) = one r next v

@@ -67,22 +67,45 @@ pub fn branch(region: &[u16], len: usize, r: Regs, want: u16, next: usize, a: u1
     }
 }
 
-// The record that d static links lead to: one link, and then d - 1 more.
-pub fn walk(region: &[u16], m: usize, d: u16) -> Link
+// One static link: the record that the mark at m names.
+fn link(region: &[u16], m: usize) -> Link
+    requires { ⌜ m < length (now region) ⌝ }
+    ensures { λ r. ⌜ linkOf r ≡ follow (now (region .entry)) m 1 ⌝ }
+{
+    let to = word_of(region, m) as usize;
+    if to < 1 {
+        return Link::Broken;
+    }
+    if region.len() < to + 5 {
+        return Link::Broken;
+    }
+    Link::Record(to)
+}
+
+// d static links: one, and then d - 1 more.
+fn walk(region: &[u16], m: usize, d: u16) -> Link
     requires { ⌜ m < length (now region) ⌝ }
     ensures { λ r. ⌜ linkOf r ≡ follow (now (region .entry)) m d ⌝ }
 {
     if d == 0 {
         return Link::Record(m);
     }
-    let link = word_of(region, m) as usize;
-    if link < 1 {
+    let Link::Record(up) = link(region, m) else {
         return Link::Broken;
+    };
+    walk(region, up, d - 1)
+}
+
+// The record that d static links lead to. One link, the most common number, is followed in line. The walk is lent a part that is made for
+// it: a region lent to a call as it came would live in memory, and not in registers, at every step.
+pub fn record(region: &[u16], m: usize, d: u16) -> Link
+    requires { ⌜ m < length (now region) ⌝ }
+    ensures { λ r. ⌜ linkOf r ≡ follow (now (region .entry)) m d ⌝ }
+{
+    if d == 1 {
+        return link(region, m);
     }
-    if region.len() < link + 5 {
-        return Link::Broken;
-    }
-    walk(region, link, d - 1)
+    walk(&region[0..], m, d)
 }
 
 // Where routine k is entered from the stack pointer sp.
@@ -111,7 +134,7 @@ pub fn call(r: Regs, k: u16, parent: usize, next: usize, e: Entry) -> Planned
 {
     match e {
         Entry::To(sp, counter) => {
-            Planned::Call(sp, counter, k as usize, parent as u16, next as u16)
+            Planned::Call(parent as u16, next as u16, sp, counter, k as usize)
         }
         Entry::Not(n) => Planned::Bad(n),
     }

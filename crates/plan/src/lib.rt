@@ -9,23 +9,20 @@ pub use flow::call;
 pub use flow::enter;
 pub use flow::give_back;
 pub use flow::jump;
-pub use flow::walk;
+pub use flow::record;
 pub use places::address;
+pub use places::index;
 pub use places::load;
 pub use places::pool_offset;
-pub use places::read_at;
 pub use places::store;
 pub use places::store_at;
 pub use stack::check_range;
-pub use stack::few;
-pub use stack::give_one;
-pub use stack::give_read;
-pub use stack::give_two;
-pub use stack::nos;
+pub use stack::divide;
+pub use stack::duplicate;
+pub use stack::one_word;
 pub use stack::push;
-pub use stack::quotient;
-pub use stack::remainder;
-pub use stack::tos;
+pub use stack::swap;
+pub use stack::two_words;
 pub use stack::word_of;
 
 // Stack pointer, record pointer, counter and current routine: fields of one width, so that a loop keeps them in registers.
@@ -45,16 +42,19 @@ pub struct Facts {
     pub floor: usize,
 }
 
-// What changes, and nothing more: a wider answer would pass through memory at every step.
+// What changes, and nothing more: a wider answer would pass through memory at every step. Words stand before the wider numbers, so that
+// each place of the answer has one width in all variants.
 pub enum Planned {
     // stack pointer, counter
     Move(usize, usize),
-    // stack pointer, counter, and the word at a place
-    Put(usize, usize, usize, u16),
-    // counter, and the two top words
-    Swap(usize, u16, u16),
-    // stack and record pointer, counter, routine, lexical parent, the byte after the call
-    Call(usize, usize, usize, u16, u16),
+    // a word, stack pointer, counter, and the place of the word
+    Put(u16, usize, usize, usize),
+    // a word, stack pointer, counter; the word is the new top of the stack
+    Top(u16, usize, usize),
+    // the two top words, counter
+    Swap(u16, u16, usize),
+    // lexical parent, the byte after the call; stack and record pointer, counter, routine
+    Call(u16, u16, usize, usize, usize),
     // stack pointer, record pointer, counter, routine
     Back(usize, usize, usize, usize),
     // a fault
@@ -78,4 +78,32 @@ pub enum Read {
 pub enum Entry {
     To(usize, usize),
     Not(u8),
+}
+
+// The instructions on one word, on two, and the divisions, by their names in appendix B.
+pub enum Unary {
+    Abi,
+    Ngi,
+    Lnot,
+    Inci,
+    Deci,
+}
+
+pub enum Binary {
+    Mpi,
+    Lor,
+    Land,
+    Adi,
+    Sbi,
+    Equi,
+    Neqi,
+    Leqi,
+    Geqi,
+    Leusw,
+    Geusw,
+}
+
+pub enum Division {
+    Dvi,
+    Modi,
 }

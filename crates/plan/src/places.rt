@@ -3,13 +3,14 @@
 use crate::Planned;
 use crate::Read;
 use crate::Regs;
+use crate::stack::give_read;
 use crate::stack::push;
 use crate::stack::word_of;
 ghost use mathlib.Core.Path.{_≡_};
 ghost use Prim.Native.Nat.{_+_, _≤_, _<_};
-ghost use lib.ListN.{length};
+ghost use lib.ListN.{length, getD};
 ghost use Rattle.plan.specs.Answer.{regsOf, outcomeOf};
-ghost use Rattle.plan.specs.Mirror.{loaded, addressed, stored, readAt, storedAt, pooled};
+ghost use Rattle.plan.specs.Mirror.{lack, loaded, addressed, stored, gives, readAt, storedAt, pooled};
 
 // Offset a of the record at rec.
 pub fn load(region: &[u16], floor: usize, r: Regs, rec: usize, a: u16, next: usize) -> Planned
@@ -37,19 +38,22 @@ pub fn address(region: &[u16], floor: usize, r: Regs, rec: usize, a: u16, next: 
 }
 
 pub fn store(region: &[u16], r: Regs, rec: usize, a: u16, next: usize) -> Planned
-    requires { ⌜ (r .sp < length (now region)) × ((rec ≤ 32768) × (length (now region) ≤ 32768)) ⌝ }
-    ensures { λ p. ⌜ outcomeOf r p ≡ stored (now (region .entry)) (regsOf r) rec a next ⌝ }
+    requires { ⌜ (r .sp ≤ 32768) × ((rec ≤ 32768) × (length (now region) ≤ 32768)) ⌝ }
+    ensures { λ p. ⌜ outcomeOf r p ≡ lack 1 (now (region .entry)) (regsOf r) (stored (now (region .entry)) (regsOf r) rec a next) ⌝ }
 {
+    if region.len() < r.sp + 1 {
+        return Planned::Bad(3);
+    }
     let at = rec + 4 + a as usize;
     if region.len() <= at {
         Planned::Bad(6)
     } else {
-        Planned::Put(r.sp + 1, next, at, word_of(region, r.sp))
+        Planned::Put(word_of(region, r.sp), r.sp + 1, next, at)
     }
 }
 
 // The word i words on from the address base.
-pub fn read_at(region: &[u16], shared: &[u16], base: u16, i: u16) -> Read
+fn read_at(region: &[u16], shared: &[u16], base: u16, i: u16) -> Read
     requires { ⌜ (length (now region) ≤ 32768) × (length (now shared) ≤ 32768) ⌝ }
     ensures { λ v. ⌜ v ≡ readAt (now (region .entry)) (now (shared .entry)) base i ⌝ }
 {
@@ -69,11 +73,25 @@ pub fn read_at(region: &[u16], shared: &[u16], base: u16, i: u16) -> Read
     Read::Value(word_of(shared, at - 32768))
 }
 
+// An address becomes the word i words on from it.
+pub fn index(region: &[u16], shared: &[u16], r: Regs, i: u16, next: usize) -> Planned
+    requires { ⌜ (r .sp ≤ 32768) × ((length (now region) ≤ 32768) × (length (now shared) ≤ 32768)) ⌝ }
+    ensures { λ p. ⌜ outcomeOf r p ≡ lack 1 (now (region .entry)) (regsOf r) (gives (regsOf r) next (readAt (now (region .entry)) (now (shared .entry)) (getD (now (region .entry)) (r .sp) 0) i)) ⌝ }
+{
+    if region.len() < r.sp + 1 {
+        return Planned::Bad(3);
+    }
+    give_read(r, next, read_at(region, shared, word_of(region, r.sp), i))
+}
+
 // The top word goes to the address below it.
 pub fn store_at(region: &[u16], r: Regs, next: usize) -> Planned
-    requires { ⌜ (r .sp + 2 ≤ length (now region)) × (length (now region) ≤ 32768) ⌝ }
-    ensures { λ p. ⌜ outcomeOf r p ≡ storedAt (now (region .entry)) (regsOf r) next ⌝ }
+    requires { ⌜ (r .sp ≤ 32768) × (length (now region) ≤ 32768) ⌝ }
+    ensures { λ p. ⌜ outcomeOf r p ≡ lack 2 (now (region .entry)) (regsOf r) (storedAt (now (region .entry)) (regsOf r) next) ⌝ }
 {
+    if region.len() < r.sp + 2 {
+        return Planned::Bad(3);
+    }
     let at = word_of(region, r.sp + 1) as usize;
     if at < 1 {
         Planned::Bad(6)
@@ -81,7 +99,7 @@ pub fn store_at(region: &[u16], r: Regs, next: usize) -> Planned
         if region.len() <= at {
             Planned::Bad(6)
         } else {
-            Planned::Put(r.sp + 2, next, at, word_of(region, r.sp))
+            Planned::Put(word_of(region, r.sp), r.sp + 2, next, at)
         }
     }
 }

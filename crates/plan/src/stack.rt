@@ -1,15 +1,16 @@
 // Words on the stack: what is taken from it and given to it.
 // Above: the other modules and `judge`; below: the integers of `word`.
+use crate::Binary;
+use crate::Division;
 use crate::Planned;
 use crate::Read;
 use crate::Regs;
+use crate::Unary;
 ghost use mathlib.Core.Path.{_≡_};
 ghost use Prim.Native.Nat.{_+_, _-_, _≤_, _<_};
-ghost use lib.Dec.{ltb};
 ghost use lib.ListN.{length, getD};
-ghost use Rattle.basis.specs.Integer.{quotOf, remOf};
 ghost use Rattle.plan.specs.Answer.{regsOf, outcomeOf};
-ghost use Rattle.plan.specs.Mirror.{pushed, gives, one, two, divided, checked};
+ghost use Rattle.plan.specs.Mirror.{lack, pushed, swapped, gives, one, oneOf, two, twoOf, divided, divisionOf, checked};
 
 // A word of a region, or of the shared words.
 pub fn word_of(words: &[u16], at: usize) -> u16
@@ -17,29 +18,6 @@ pub fn word_of(words: &[u16], at: usize) -> u16
     ensures { λ r. ⌜ r ≡ getD (now (words .entry)) at 0 ⌝ }
 {
     words[at]
-}
-
-// Whether there are fewer than n words on the stack.
-pub fn few(region: &[u16], sp: usize, n: usize) -> bool
-    requires { ⌜ (sp ≤ 32768) × (n ≤ 3) ⌝ }
-    ensures { λ b. ⌜ b ≡ ltb (length (now (region .entry))) (sp + n) ⌝ }
-{
-    region.len() < sp + n
-}
-
-// The top of the stack, and the word below it.
-pub fn tos(region: &[u16], r: Regs) -> u16
-    requires { ⌜ r .sp < length (now region) ⌝ }
-    ensures { λ v. ⌜ v ≡ getD (now (region .entry)) (r .sp) 0 ⌝ }
-{
-    word_of(region, r.sp)
-}
-
-pub fn nos(region: &[u16], r: Regs) -> u16
-    requires { ⌜ (r .sp + 1 < length (now region)) × (r .sp ≤ 32768) ⌝ }
-    ensures { λ v. ⌜ v ≡ getD (now (region .entry)) (r .sp + 1) 0 ⌝ }
-{
-    word_of(region, r.sp + 1)
 }
 
 pub fn push(floor: usize, r: Regs, next: usize, v: u16) -> Planned
@@ -50,23 +28,43 @@ pub fn push(floor: usize, r: Regs, next: usize, v: u16) -> Planned
     if sp < floor {
         Planned::Bad(4)
     } else {
-        Planned::Put(sp, next, sp, v)
+        Planned::Top(v, sp, next)
     }
 }
 
+pub fn duplicate(region: &[u16], floor: usize, r: Regs, next: usize) -> Planned
+    requires { ⌜ (1 ≤ r .sp) × (r .sp ≤ 32768) ⌝ }
+    ensures { λ p. ⌜ outcomeOf r p ≡ lack 1 (now (region .entry)) (regsOf r) (pushed floor (regsOf r) next (getD (now (region .entry)) (r .sp) 0)) ⌝ }
+{
+    if region.len() < r.sp + 1 {
+        return Planned::Bad(3);
+    }
+    push(floor, r, next, word_of(region, r.sp))
+}
+
+pub fn swap(region: &[u16], r: Regs, next: usize) -> Planned
+    requires { ⌜ r .sp ≤ 32768 ⌝ }
+    ensures { λ p. ⌜ outcomeOf r p ≡ lack 2 (now (region .entry)) (regsOf r) (swapped (now (region .entry)) (regsOf r) next) ⌝ }
+{
+    if region.len() < r.sp + 2 {
+        return Planned::Bad(3);
+    }
+    Planned::Swap(word_of(region, r.sp + 1), word_of(region, r.sp), next)
+}
+
 // A word in the place of the top one.
-pub fn give_one(r: Regs, next: usize, v: u16) -> Planned
+fn give_one(r: Regs, next: usize, v: u16) -> Planned
     ensures { λ p. ⌜ outcomeOf r p ≡ one (regsOf r) next v ⌝ }
 {
-    Planned::Put(r.sp, next, r.sp, v)
+    Planned::Top(v, r.sp, next)
 }
 
 // A word in the place of the two top ones.
-pub fn give_two(r: Regs, next: usize, v: u16) -> Planned
+fn give_two(r: Regs, next: usize, v: u16) -> Planned
     requires { ⌜ r .sp ≤ 32768 ⌝ }
     ensures { λ p. ⌜ outcomeOf r p ≡ two (regsOf r) next v ⌝ }
 {
-    Planned::Put(r.sp + 1, next, r.sp + 1, v)
+    Planned::Top(v, r.sp + 1, next)
 }
 
 // A word that was read, in the place of its address.
@@ -74,38 +72,91 @@ pub fn give_read(r: Regs, next: usize, x: Read) -> Planned
     ensures { λ p. ⌜ outcomeOf r p ≡ gives (regsOf r) next x ⌝ }
 {
     match x {
-        Read::Value(v) => Planned::Put(r.sp, next, r.sp, v),
+        Read::Value(v) => Planned::Top(v, r.sp, next),
         Read::Missing => Planned::Bad(6),
     }
 }
 
-pub fn quotient(r: Regs, next: usize, x: u16, y: u16) -> Planned
-    requires { ⌜ r .sp ≤ 32768 ⌝ }
-    ensures { λ p. ⌜ outcomeOf r p ≡ divided quotOf (regsOf r) next x y ⌝ }
+fn one_of(f: Unary, x: u16) -> u16
+    ensures { λ v. ⌜ v ≡ oneOf f x ⌝ }
 {
-    if y == 0 {
-        Planned::Bad(5)
-    } else {
-        give_two(r, next, word::quot(x, y))
+    match f {
+        Unary::Abi => word::mag(x),
+        Unary::Ngi => word::neg(x),
+        Unary::Lnot => compare::bit_not(x),
+        Unary::Inci => word::inc(x),
+        Unary::Deci => word::dec(x),
     }
 }
 
-pub fn remainder(r: Regs, next: usize, x: u16, y: u16) -> Planned
+pub fn one_word(region: &[u16], r: Regs, next: usize, f: Unary) -> Planned
     requires { ⌜ r .sp ≤ 32768 ⌝ }
-    ensures { λ p. ⌜ outcomeOf r p ≡ divided remOf (regsOf r) next x y ⌝ }
+    ensures { λ p. ⌜ outcomeOf r p ≡ lack 1 (now (region .entry)) (regsOf r) (one (regsOf r) next (oneOf f (getD (now (region .entry)) (r .sp) 0))) ⌝ }
 {
+    if region.len() < r.sp + 1 {
+        return Planned::Bad(3);
+    }
+    give_one(r, next, one_of(f, word_of(region, r.sp)))
+}
+
+fn two_of(f: Binary, x: u16, y: u16) -> u16
+    ensures { λ v. ⌜ v ≡ twoOf f x y ⌝ }
+{
+    match f {
+        Binary::Mpi => word::mul(x, y),
+        Binary::Lor => compare::bit_or(x, y),
+        Binary::Land => compare::bit_and(x, y),
+        Binary::Adi => word::add(x, y),
+        Binary::Sbi => word::sub(x, y),
+        Binary::Equi => compare::equal(x, y),
+        Binary::Neqi => compare::differ(x, y),
+        Binary::Leqi => compare::leq(x, y),
+        Binary::Geqi => compare::geq(x, y),
+        Binary::Leusw => compare::leu(x, y),
+        Binary::Geusw => compare::geu(x, y),
+    }
+}
+
+pub fn two_words(region: &[u16], r: Regs, next: usize, f: Binary) -> Planned
+    requires { ⌜ r .sp ≤ 32768 ⌝ }
+    ensures { λ p. ⌜ outcomeOf r p ≡ lack 2 (now (region .entry)) (regsOf r) (two (regsOf r) next (twoOf f (getD (now (region .entry)) (r .sp + 1) 0) (getD (now (region .entry)) (r .sp) 0))) ⌝ }
+{
+    if region.len() < r.sp + 2 {
+        return Planned::Bad(3);
+    }
+    give_two(
+        r,
+        next,
+        two_of(f, word_of(region, r.sp + 1), word_of(region, r.sp)),
+    )
+}
+
+pub fn divide(region: &[u16], r: Regs, next: usize, f: Division) -> Planned
+    requires { ⌜ r .sp ≤ 32768 ⌝ }
+    ensures { λ p. ⌜ outcomeOf r p ≡ lack 2 (now (region .entry)) (regsOf r) (divided (divisionOf f) (regsOf r) next (getD (now (region .entry)) (r .sp + 1) 0) (getD (now (region .entry)) (r .sp) 0)) ⌝ }
+{
+    if region.len() < r.sp + 2 {
+        return Planned::Bad(3);
+    }
+    let x = word_of(region, r.sp + 1);
+    let y = word_of(region, r.sp);
     if y == 0 {
-        Planned::Bad(5)
-    } else {
-        give_two(r, next, word::rem(x, y))
+        return Planned::Bad(5);
+    }
+    match f {
+        Division::Dvi => give_two(r, next, word::quot(x, y)),
+        Division::Modi => give_two(r, next, word::rem(x, y)),
     }
 }
 
 // TOS-1 <= TOS-2 <= TOS, leaving TOS-2.
 pub fn check_range(region: &[u16], r: Regs, next: usize) -> Planned
-    requires { ⌜ (r .sp + 3 ≤ length (now region)) × (r .sp ≤ 32768) ⌝ }
-    ensures { λ p. ⌜ outcomeOf r p ≡ checked (now (region .entry)) (regsOf r) next ⌝ }
+    requires { ⌜ r .sp ≤ 32768 ⌝ }
+    ensures { λ p. ⌜ outcomeOf r p ≡ lack 3 (now (region .entry)) (regsOf r) (checked (now (region .entry)) (regsOf r) next) ⌝ }
 {
+    if region.len() < r.sp + 3 {
+        return Planned::Bad(3);
+    }
     let v = word_of(region, r.sp + 2);
     if compare::leq(word_of(region, r.sp + 1), v) == 1 {
         if compare::leq(v, word_of(region, r.sp)) == 1 {

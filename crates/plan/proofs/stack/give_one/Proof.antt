@@ -1,6 +1,7 @@
 -- `plan::stack::give_one` meets its contract. Assumes nothing.
 use mathlib.Core.Path.{refl}
 use Rattle.plan.specs.Answer.{outcomeOf}
+use borrow.Author.Needs.{needs}
 use Rattle.plan.proofs.stack.give_one.Statement.{statement}
 use Rattle.plan.proofs.stack.give_one.Tie as tie
 

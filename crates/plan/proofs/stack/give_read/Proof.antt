@@ -5,12 +5,6 @@ use borrow.Author.Needs.{needs}
 use Rattle.plan.proofs.stack.give_read.Statement.{statement}
 use Rattle.plan.proofs.stack.give_read.Tie as tie
 
-enum-known-x : tie.Need-enum-known-x
-enum-known-x c = search needs
-
-enum-told : tie.Need-enum-told
-enum-told c = search needs
-
 returns : tie.Need-returns
 unfolding outcomeOf gives
 returns c = simp (c .before .x .given .1)
@@ -20,4 +14,4 @@ unfolding outcomeOf gives
 returns-2 c = simp (c .enum-told .given .1)
 
 pub give-read-spec : {M : Type 1} → statement M
-give-read-spec = tie.close (tie.spec enum-known-x enum-told returns returns-2)
+give-read-spec = tie.close (tie.spec (λ c. search needs) (λ c. search needs) returns returns-2)
