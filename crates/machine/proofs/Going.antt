@@ -11,13 +11,18 @@ use Rattle.basis.proofs.Part.{length-part, splice-same, length-splice, part-spl
 use Rattle.pmachine.specs.State.{Registers, Kind, ready, finished, faulted, State}
 use Rattle.pmachine.specs.Step.{Outcome, judge}
 use Rattle.pmachine.specs.Run.{isReady, settled, step, run, stepsDone}
-use Rattle.pmachine.specs.Sound.{Loaded, Ranged}
+use Rattle.pmachine.specs.Sound.{Ranged}
 use Rattle.pmachine.proofs.Runs.{step-length, step-ready, run-none, count-none, run-suc, run-stopped, count-stopped, count-ready}
 use Rattle.pmachine.proofs.Keeps.{Whole, step-whole}
+use Rattle.plan.specs.declared.Facts.{Facts}
+use Rattle.plan.specs.declared.Regs.{Regs}
 use Rattle.plan.specs.Answer.{regsOf}
+use Rattle.machine.specs.declared.Kind.{Kind as Kinds}
+use Rattle.machine.specs.declared.Kind.the-variants.{Ready}
 use Rattle.machine.specs.declared.Stepped.{Stepped}
+use Rattle.machine.specs.declared.Stepped.the-variants.{Went}
 use Rattle.machine.specs.declared.Turned.{Turned}
-use Rattle.machine.specs.Memory.{kindOf, Placed, stateAt, wentTo, cameTo, Stood, TurnedTo}
+use Rattle.machine.specs.Memory.{kindOf, Placed, Steady, stateAt, wentTo, cameTo, Stood, TurnedTo}
 
 splice-twice : (a e : ℕ) (m : List ℕ) → a ≤ e → e ≤ length m → (ys zs : List ℕ) → length ys ≡ e - a → splice a e zs (splice a e ys m) ≡ splice a e zs m
 splice-twice a e m o f ys zs l =
@@ -26,57 +31,69 @@ splice-twice a e m o f ys zs l =
     unfold splice in λ i. x i ++ (zs ++ y i)
 
 module _ (s m₀ : List ℕ) (at end j k : ℕ) (r₀ : Registers) where
-  -- after `done` of k steps: what is left of the run from here is the run from the start
-  pub record Going (m : List ℕ) (r : Registers) (done : ℕ) : Type 0 where
-    pub ran : run s (take j m₀) k (stateAt at end m₀ r₀ ready) ≡ run s (take j m₀) (k - done) (stateAt at end m r ready)
-    pub counted : stepsDone s (take j m₀) k (stateAt at end m₀ r₀ ready) ≡ done + stepsDone s (take j m₀) (k - done) (stateAt at end m r ready)
+  -- with `left` of k steps to go: what is left of the run from here is the run from the start
+  pub record Going (m : List ℕ) (r : Registers) (left : ℕ) : Type 0 where
+    pub ran : run s (take j m₀) k (stateAt at end m₀ r₀ ready) ≡ run s (take j m₀) left (stateAt at end m r ready)
+    pub counted : stepsDone s (take j m₀) k (stateAt at end m₀ r₀ ready) + left ≡ k + stepsDone s (take j m₀) left (stateAt at end m r ready)
     pub ranged : Ranged s (end - at) r
     pub held : m ≡ splice at end (part at end m) m₀
     pub size : length m ≡ length m₀
-    pub most : done ≤ k
+    pub most : left ≤ k
 
-module _ (s m₀ : List ℕ) (at end j k : ℕ) (r₀ : Registers) (pl : Placed (length m₀) at end j) (ld : Loaded s) where
-  pub going-start : Ranged s (end - at) r₀ → Going s m₀ at end j k r₀ m₀ r₀ 0
-  going-start h =
-      let e : k ≡ k - 0 = omega arith in
-      let f = ap (λ (n : ℕ). stepsDone s (take j m₀) n (stateAt at end m₀ r₀ ready)) e in
+module _ {s m₀ : List ℕ} {f : Facts} {at end j : ℕ} {start : Regs} (steady : Steady s f m₀ at end j start) (k : ℕ) where
+  abbrev r₀ : Registers
+  r₀ = regsOf start
+
+  abbrev pl : Placed (length m₀) at end j
+  pl = steady .placed
+
+  pub going-start : Going s m₀ at end j k r₀ m₀ r₀ k
+  going-start =
       record {
-        ran = ap (λ (n : ℕ). run s (take j m₀) n (stateAt at end m₀ r₀ ready)) e;
-        counted = omega (arith, f);
-        ranged = h;
+        ran = refl;
+        counted = omega arith;
+        ranged = steady .ranged;
         held = sym (splice-same at end m₀ (pl .order) (pl .inside));
         size = refl;
         most = omega arith;
       }
 
-  module _ (m : List ℕ) (r : Registers) (done : ℕ) (g : Going s m₀ at end j k r₀ m r done) where
+  module _ {m : List ℕ} {now : Regs} {left : ℕ} (g : Going s m₀ at end j k r₀ m (regsOf now) left) where
+    abbrev r : Registers
+    r = regsOf now
+
     inside : end ≤ length m
     inside = subst (λ (n : ℕ). end ≤ n) (sym (g .size)) (pl .inside)
 
     wide : length (part at end m) ≡ end - at
     wide = length-part at end m (pl .order) inside
 
-    pub going-placed : Placed (length m) at end j
-    going-placed = record { below = pl .below; order = pl .order; inside = inside; shared = pl .shared; small = pl .small }
+    pub going-steady : Steady s f m at end j now
+    going-steady =
+        record {
+          placed = record { below = pl .below; order = pl .order; inside = inside; shared = pl .shared; small = pl .small };
+          loaded = steady .loaded;
+          told = steady .told;
+          ranged = g .ranged;
+        }
 
     shared-same : take j m ≡ take j m₀
     shared-same = ap (take j) (g .held) ∙ take-splice at end m₀ (pl .order) (pl .inside) (part at end m) wide j (pl .below)
 
-    -- the loop's test failed: all k steps are done
-    pub going-end : k ≤ done → (t : Turned) → regsOf (t .cpu .regs) ≡ r → kindOf (t .cpu .kind) ≡ ready → t .done ≡ done
-        → TurnedTo s m₀ j at end k r₀ ready t m
-    going-end l t a b d =
-        let left : k - done ≡ 0 = omega arith in
-        let z = g .ran ∙ (ap (λ (n : ℕ). run s (take j m₀) n (stateAt at end m r ready)) left ∙ run-none s (take j m₀) (stateAt at end m r ready)) in
-        let y = ap (λ (n : ℕ). stepsDone s (take j m₀) n (stateAt at end m r ready)) left ∙ count-none s (take j m₀) (stateAt at end m r ready) in
+    -- the loop's test failed: no step is left
+    pub going-end : left ≤ 0 → {t : Turned} → t ≡ record { cpu = record { kind = Ready; regs = now }; done = k } → TurnedTo s m₀ j at end k r₀ ready t m
+    going-end l e =
+        let none : left ≡ 0 = omega arith in
+        let z = g .ran ∙ (ap (λ (n : ℕ). run s (take j m₀) n (stateAt at end m r ready)) none ∙ run-none s (take j m₀) (stateAt at end m r ready)) in
+        let y = ap (λ (n : ℕ). stepsDone s (take j m₀) n (stateAt at end m r ready)) none ∙ count-none s (take j m₀) (stateAt at end m r ready) in
         record {
-          registers = a ∙ sym (ap (λ (x : State). x .registers) z);
-          kind = b ∙ sym (ap (λ (x : State). x .kind) z);
-          done = d ∙ omega (arith, g .counted, y);
+          registers = ap (λ (t : Turned). regsOf (t .cpu .regs)) e ∙ sym (ap (λ (x : State). x .registers) z);
+          kind = ap (λ (t : Turned). kindOf (t .cpu .kind)) e ∙ sym (ap (λ (x : State). x .kind) z);
+          done = ap (λ (t : Turned). t .done) e ∙ omega (arith, g .counted, y, none);
           memory = g .held ∙ sym (ap (λ (x : State). splice at end (x .words) m₀) z);
         }
 
-    module _ (q : Stepped) (m′ : List ℕ) (lt : done < k) (st : Stood r (judge s (take j m) (part at end m) r) at end m q m′) where
+    module _ {q : Stepped} {m′ : List ℕ} (lt : 0 < left) (st : Stood r (judge s (take j m) (part at end m) r) at end m q m′) where
       o : Outcome
       o = judge s (take j m) (part at end m) r
 
@@ -106,55 +123,58 @@ module _ (s m₀ : List ℕ) (at end j k : ℕ) (r₀ : Registers) (pl : Placed 
       unfolding v o
       now-size = ap length (st .memory) ∙ (length-splice at end m (pl .order) inside v long ∙ g .size)
 
-      stepped : step s (take j m₀) (stateAt at end m r ready) ≡ stateAt at end m′ (wentTo r q) (cameTo r q)
+      -- the session after the step
+      abbrev next : State
+      next = stateAt at end m′ (wentTo r q) (cameTo r q)
+
+      stepped : step s (take j m₀) (stateAt at end m r ready) ≡ next
       unfolding v o
       stepped =
           ap (λ (x : List ℕ). step s x (stateAt at end m r ready)) (sym shared-same)
           ∙ (stepped-words ∙ (λ i. record { words = sym now-part i; registers = sym (st .registers) i; kind = sym (st .kind) i }))
 
-      left : k - done ≡ suc (k - (done + 1))
-      left = omega (arith, lt)
+      one-less : left ≡ suc (left - 1)
+      one-less = omega (arith, lt)
 
-      now-ran : run s (take j m₀) k (stateAt at end m₀ r₀ ready) ≡ run s (take j m₀) (k - (done + 1)) (stateAt at end m′ (wentTo r q) (cameTo r q))
+      now-ran : run s (take j m₀) k (stateAt at end m₀ r₀ ready) ≡ run s (take j m₀) (left - 1) next
       now-ran =
           g .ran
-          ∙ (ap (λ (n : ℕ). run s (take j m₀) n (stateAt at end m r ready)) left
-          ∙ (run-suc s (take j m₀) (k - (done + 1)) (stateAt at end m r ready) ∙ ap (run s (take j m₀) (k - (done + 1))) stepped))
+          ∙ (ap (λ (n : ℕ). run s (take j m₀) n (stateAt at end m r ready)) one-less
+          ∙ (run-suc s (take j m₀) (left - 1) (stateAt at end m r ready) ∙ ap (run s (take j m₀) (left - 1)) stepped))
 
-      now-counted : stepsDone s (take j m₀) k (stateAt at end m₀ r₀ ready) ≡ done + 1 + stepsDone s (take j m₀) (k - (done + 1)) (stateAt at end m′ (wentTo r q) (cameTo r q))
+      now-counted : stepsDone s (take j m₀) k (stateAt at end m₀ r₀ ready) + (left - 1) ≡ k + stepsDone s (take j m₀) (left - 1) next
       now-counted =
-          let a = ap (λ (n : ℕ). stepsDone s (take j m₀) n (stateAt at end m r ready)) left in
-          let b = count-ready s (take j m₀) (k - (done + 1)) (stateAt at end m r ready) (unfold isReady in refl) in
-          let d = ap (stepsDone s (take j m₀) (k - (done + 1))) stepped in
-          omega (arith, g .counted, a, b, d)
+          let a = ap (λ (n : ℕ). stepsDone s (take j m₀) n (stateAt at end m r ready)) one-less in
+          let b = count-ready s (take j m₀) (left - 1) (stateAt at end m r ready) (unfold isReady in refl) in
+          let d = ap (stepsDone s (take j m₀) (left - 1)) stepped in
+          omega (arith, g .counted, a, b, d, lt)
 
       -- a session that stopped
-      pub going-stop : isReady (cameTo r q) ≡ false → (t : Turned) → regsOf (t .cpu .regs) ≡ wentTo r q → kindOf (t .cpu .kind) ≡ cameTo r q → t .done ≡ done + 1
-          → TurnedTo s m₀ j at end k r₀ ready t m′
-      going-stop e t a b d =
-          let u = stateAt at end m′ (wentTo r q) (cameTo r q) in
-          let z = now-ran ∙ run-stopped s (take j m₀) (k - (done + 1)) u e in
-          let y = count-stopped s (take j m₀) (k - (done + 1)) u e in
+      pub going-stop : {kind : Kinds} {t : Turned} → wentTo r q ≡ r → kindOf kind ≡ cameTo r q → isReady (cameTo r q) ≡ false
+          → t ≡ record { cpu = record { kind = kind; regs = now }; done = k - left + 1 } → TurnedTo s m₀ j at end k r₀ ready t m′
+      going-stop still named e t =
+          let z = now-ran ∙ run-stopped s (take j m₀) (left - 1) next e in
+          let y = count-stopped s (take j m₀) (left - 1) next e in
           record {
-            registers = a ∙ sym (ap (λ (x : State). x .registers) z);
-            kind = b ∙ sym (ap (λ (x : State). x .kind) z);
-            done = d ∙ omega (arith, now-counted, y);
+            registers = ap (λ (x : Turned). regsOf (x .cpu .regs)) t ∙ (sym still ∙ sym (ap (λ (x : State). x .registers) z));
+            kind = ap (λ (x : Turned). kindOf (x .cpu .kind)) t ∙ (named ∙ sym (ap (λ (x : State). x .kind) z));
+            done = ap (λ (x : Turned). x .done) t ∙ omega (arith, now-counted, y, lt, g .most);
             memory = now-held ∙ sym (ap (λ (x : State). splice at end (x .words) m₀) z);
           }
 
       -- a session that goes on
-      pub going-next : (p : Registers) → wentTo r q ≡ p → cameTo r q ≡ ready → Going s m₀ at end j k r₀ m′ p (done + 1)
-      going-next p e f =
-          let u : stateAt at end m′ (wentTo r q) (cameTo r q) ≡ stateAt at end m′ p ready = λ i. record { words = part at end m′; registers = e i; kind = f i } in
+      pub going-next : {then : Regs} → q ≡ Went then → Going s m₀ at end j k r₀ m′ (regsOf then) (left - 1)
+      going-next {then} e =
+          let u : next ≡ stateAt at end m′ (regsOf then) ready = ap (λ (x : Stepped). stateAt at end m′ (wentTo r x) (cameTo r x)) e in
           let w : Whole s (end - at) (stateAt at end m r ready) = record { size = wide; registers = g .ranged; kind = tt } in
-          let h = step-whole s (take j m₀) (end - at) ld (stateAt at end m r ready) w in
+          let h = step-whole s (take j m₀) (end - at) (steady .loaded) (stateAt at end m r ready) w in
           record {
-            ran = now-ran ∙ ap (run s (take j m₀) (k - (done + 1))) u;
-            counted = now-counted ∙ ap (λ (x : State). done + 1 + stepsDone s (take j m₀) (k - (done + 1)) x) u;
+            ran = now-ran ∙ ap (run s (take j m₀) (left - 1)) u;
+            counted = now-counted ∙ ap (λ (x : State). k + stepsDone s (take j m₀) (left - 1) x) u;
             ranged = subst (λ (x : State). Ranged s (end - at) (x .registers)) (stepped ∙ u) (h .registers);
             held = now-held;
             size = now-size;
-            most = omega (arith, lt);
+            most = omega (arith, g .most);
           }
 
 -- ---- a session that is not ready stays, and one that is ready runs

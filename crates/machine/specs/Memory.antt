@@ -3,12 +3,16 @@
 use mathlib.Core.Path.{_≡_}
 use mathlib.Core.List.{List}
 use Prim.Native.Nat.{ℕ, _-_, _≤_}
-use lib.ListN.{take}
+use lib.ListN.{length, take}
 use Rattle.basis.specs.Part.{part, splice}
 use Rattle.pmachine.specs.State.{Registers, Kind as Kinds, ready, finished, faulted, State}
 use Rattle.pmachine.specs.Step.{Outcome}
 use Rattle.pmachine.specs.Run.{settled, run, stepsDone}
+use Rattle.pmachine.specs.Sound.{Loaded, Ranged}
+use Rattle.plan.specs.declared.Facts.{Facts}
+use Rattle.plan.specs.declared.Regs.{Regs}
 use Rattle.plan.specs.Answer.{regsOf}
+use Rattle.plan.specs.Told.{Told}
 use Rattle.machine.specs.declared.Kind.{Kind}
 use Rattle.machine.specs.declared.Kind.the-variants.{Ready, Finished, Faulted}
 use Rattle.machine.specs.declared.Stepped.{Stepped}
@@ -29,18 +33,25 @@ pub record Placed (m at end j : ℕ) : Type 0 where
   pub shared : j ≤ 32768
   pub small : end - at ≤ 32768
 
+-- all that a step stands on, of a memory that holds the shared words and the region
+pub record Steady (s : List ℕ) (f : Facts) (m : List ℕ) (at end j : ℕ) (q : Regs) : Type 0 where
+  pub placed : Placed (length m) at end j
+  pub loaded : Loaded s
+  pub told : Told s f
+  pub ranged : Ranged s (end - at) (regsOf q)
+
 -- a session's state, of a memory in which its region is the words from `at` up to `end`
 abbrev pub stateAt : ℕ → ℕ → List ℕ → Registers → Kinds → State
 stateAt at end m r k = record { words = part at end m; registers = r; kind = k }
 
 -- the registers that a step's answer tells, and the kind
 abbrev pub wentTo : Registers → Stepped → Registers
-wentTo r (Went sp m counter routine) = record { sp = sp; m = m; counter = counter; routine = routine }
+wentTo r (Went q) = regsOf q
 wentTo r (Stuck n) = r
 wentTo r Ended = r
 
 abbrev pub cameTo : Registers → Stepped → Kinds
-cameTo r (Went sp m counter routine) = ready
+cameTo r (Went q) = ready
 cameTo r (Stuck n) = faulted n (r .counter)
 cameTo r Ended = finished
 

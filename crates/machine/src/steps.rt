@@ -5,14 +5,11 @@ use plan::Facts;
 use plan::Planned;
 use plan::Regs;
 ghost use mathlib.Core.Path.{_≡_};
-ghost use Prim.Native.Nat.{_-_, _≤_};
-ghost use lib.ListN.{length, take};
+ghost use lib.ListN.{take};
 ghost use Rattle.basis.specs.Part.{part};
-ghost use Rattle.pmachine.specs.Step.{judge};
-ghost use Rattle.pmachine.specs.Sound.{Loaded, Ranged};
+ghost use Rattle.pmachine.specs.Step.{judge, moved as Step·moved};
 ghost use Rattle.plan.specs.Answer.{regsOf, outcomeOf};
-ghost use Rattle.plan.specs.Told.{Told};
-ghost use Rattle.machine.specs.Memory.{Placed, Stood};
+ghost use Rattle.machine.specs.Memory.{Steady, Stood};
 
 // The shared words and the region are two parts of one memory: both are lent to the judgement, which cannot write.
 fn judge_in(
@@ -24,16 +21,16 @@ fn judge_in(
     facts: Facts,
     r: Regs,
 ) -> Planned
-    requires { ⌜ Placed (length (now mem)) at end s ⌝ }
-    requires { ⌜ (Loaded (now seg)) × (Told (now seg) facts) ⌝ }
-    requires { ⌜ Ranged (now seg) (end - at) (regsOf r) ⌝ }
+    requires { ⌜ Steady (now seg) facts (now mem) at end s r ⌝ }
     ensures { λ p. ⌜ outcomeOf r p ≡ judge (now (seg .entry)) (take s (now (mem .entry))) (part at end (now (mem .entry))) (regsOf r) ⌝ }
 {
     judge::judge(seg, facts, &mem[at..end], &mem[..s], r)
 }
 
 // The registers with another stack pointer and counter, in the same record and routine.
-fn moved(r: Regs, sp: usize, counter: usize) -> Regs {
+fn moved(r: Regs, sp: usize, counter: usize) -> Regs
+    ensures { λ q. ⌜ regsOf q ≡ Step·moved (regsOf r) sp counter ⌝ }
+{
     Regs {
         sp,
         m: r.m,
@@ -51,9 +48,7 @@ pub fn step(
     facts: Facts,
     r: Regs,
 ) -> Stepped
-    requires { ⌜ Placed (length (now mem)) at end s ⌝ }
-    requires { ⌜ (Loaded (now seg)) × (Told (now seg) facts) ⌝ }
-    requires { ⌜ Ranged (now seg) (end - at) (regsOf r) ⌝ }
+    requires { ⌜ Steady (now seg) facts (now mem) at end s r ⌝ }
     ensures { λ q. ⌜ Stood (regsOf r) (judge (now (seg .entry)) (take s (now (mem .entry))) (part at end (now (mem .entry))) (regsOf r)) at end (now (mem .entry)) q (now (mem .exit)) ⌝ }
 {
     match judge_in(mem, at, end, s, seg, facts, r) {

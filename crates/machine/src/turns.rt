@@ -15,7 +15,7 @@ ghost use Rattle.pmachine.specs.Run.{isReady};
 ghost use Rattle.pmachine.specs.Sound.{Loaded, Ranged};
 ghost use Rattle.plan.specs.Answer.{regsOf};
 ghost use Rattle.plan.specs.Told.{Told, sexOf};
-ghost use Rattle.machine.specs.Memory.{kindOf, Placed, TurnedTo};
+ghost use Rattle.machine.specs.Memory.{kindOf, Placed, Steady, TurnedTo};
 
 // What a segment says: sex, dictionary, number of routines, pool and 6+G.
 pub fn facts_of(seg: &[u8]) -> Facts
@@ -48,7 +48,7 @@ pub fn is_ready(kind: Kind) -> bool
     }
 }
 
-// The steps of a ready session. The table is made here, once a turn, and lent to each step; the registers are locals of one width.
+// The steps of a ready session, counted down: one number a step is kept, and not two.
 fn run(
     mem: &mut [u16],
     at: usize,
@@ -59,9 +59,7 @@ fn run(
     start: Regs,
     k: usize,
 ) -> Turned
-    requires { ⌜ Placed (length (now mem)) at end s ⌝ }
-    requires { ⌜ (Loaded (now seg)) × (Told (now seg) facts) ⌝ }
-    requires { ⌜ Ranged (now seg) (end - at) (regsOf start) ⌝ }
+    requires { ⌜ Steady (now seg) facts (now mem) at end s start ⌝ }
     ensures { λ t. ⌜ TurnedTo (now (seg .entry)) (now (mem .entry)) s at end k (regsOf start) ready t (now (mem .exit)) ⌝ }
 {
     let mut now = start;
@@ -73,31 +71,23 @@ fn run(
                 left -= 1;
             }
             Stepped::Stuck(n) => {
-                return Turned {
-                    cpu: Cpu {
-                        kind: Kind::Faulted(n, now.counter),
-                        regs: now,
-                    },
-                    done: k - left + 1,
-                };
+                return after(Kind::Faulted(n, now.counter), now, k - left + 1);
             }
             Stepped::Ended => {
-                return Turned {
-                    cpu: Cpu {
-                        kind: Kind::Finished,
-                        regs: now,
-                    },
-                    done: k - left + 1,
-                };
+                return after(Kind::Finished, now, k - left + 1);
             }
         }
     }
+    after(Kind::Ready, now, k)
+}
+
+// A session after its turn.
+fn after(kind: Kind, regs: Regs, done: usize) -> Turned
+    ensures { λ t. ⌜ t ≡ record { cpu = record { kind = kind; regs = regs }; done = done } ⌝ }
+{
     Turned {
-        cpu: Cpu {
-            kind: Kind::Ready,
-            regs: now,
-        },
-        done: k,
+        cpu: Cpu { kind, regs },
+        done,
     }
 }
 

@@ -4,21 +4,9 @@ use borrow.Author.Needs.{needs}
 use Rattle.commit.proofs.put_both.Statement.{statement}
 use Rattle.commit.proofs.put_both.Tie as tie
 
-put-requires : tie.Need-put-requires
-put-requires c κs = search needs
-
-add-put : tie.Need-add-put
-add-put c = search needs
-
-put-requires-2 : tie.Need-put-requires-2
-put-requires-2 c κs = search needs
-
-same-length : tie.Need-same-length
-same-length c = search needs
-
 returns : tie.Need-returns
 unfolding written
 returns c = simp (c .before .before .put2 .ensures, c .before .before .before .before .before .before .put .ensures)
 
 pub put-both-spec : {M : Type 1} → statement M
-put-both-spec = tie.close (tie.spec put-requires add-put put-requires-2 same-length returns)
+put-both-spec = tie.close (tie.spec (λ c κs. search needs) (λ c. search needs) (λ c κs. search needs) (λ c. search needs) returns)

@@ -6,24 +6,6 @@ use borrow.Author.Needs.{needs}
 use Rattle.commit.proofs.put_mark.Statement.{statement}
 use Rattle.commit.proofs.put_mark.Tie as tie
 
-mul-put-five : tie.Need-mul-put-five
-mul-put-five c = search needs
-
-sub-put-five : tie.Need-sub-put-five
-sub-put-five c = search needs
-
-part-put-five-start : tie.Need-part-put-five-start
-part-put-five-start c = search needs
-
-part-put-five-end : tie.Need-part-put-five-end
-part-put-five-end c = search needs
-
-put-five-requires : tie.Need-put-five-requires
-put-five-requires c κs = search needs
-
-same-length : tie.Need-same-length
-same-length c = search needs
-
 returns : tie.Need-returns
 unfolding part splice written
 returns c = rw (c .before .before .put-five .ensures) refl
@@ -32,10 +14,10 @@ pub put-mark-spec : {M : Type 1} → statement M
 put-mark-spec =
     tie.close
     (tie.spec
-    mul-put-five
-    sub-put-five
-    part-put-five-start
-    part-put-five-end
-    put-five-requires
-    same-length
+    (λ c. search needs)
+    (λ c. search needs)
+    (λ c. search needs)
+    (λ c. search needs)
+    (λ c κs. search needs)
+    (λ c. search needs)
     returns)

@@ -1,77 +1,126 @@
 -- `machine::steps::step` meets its contract: what is judged is what is written. Assumes nothing.
+use mathlib.Core.Path.{refl}
 use native.Mathlib.Omega.{arith}
-use Rattle.machine.proofs.Standing.{stood-move, stood-put, stood-swap, stood-call, stood-back, stood-bad, stood-finish, fits-put, fits-swap, fits-call}
+use Rattle.pmachine.specs.Run.{written, settled}
+use Rattle.plan.specs.Answer.{outcomeOf}
+use Rattle.machine.proofs.Standing.{stands, room, same}
 use borrow.Author.Needs.{needs}
 use Rattle.machine.proofs.steps.step.Statement.{statement}
 use Rattle.machine.proofs.steps.step.Tie as tie
 
+-- ---- the room for what is written
+
 put-word-requires : tie.Need-put-word-requires
+unfolding outcomeOf
 put-word-requires c κs =
-    let a = c .before .before .before .before .before .before .before .before .args in
-    let p = c .before .before .before .before .before .before .before .before .pre in
-    fits-put (a .seg .now) (a .mem .now) (a .at) (a .end) (a .s) (a .r) (p .0) (p .1 .0 .0) (p .1 .1) _ (c .before .before .before .before .judge-in .ensures) _ _ _ _ (c .before .before .sp2 .given .1)
+    let judged = c .before .before .before .before in
+    let steady = judged .before .before .before .before .pre in
+    let fits = room steady (judged .judge-in .ensures) (c .before .before .v .given .1) refl in
+    (steady .placed .order, (steady .placed .inside, omega (arith, fits)))
+
+put-word-requires-2 : tie.Need-put-word-requires-2
+unfolding outcomeOf
+put-word-requires-2 c κs =
+    let judged = c .before .before .before .before in
+    let steady = judged .before .before .before .before .pre in
+    let fits = room steady (judged .judge-in .ensures) (c .before .before .v2 .given .1) refl in
+    (steady .placed .order, (steady .placed .inside, omega (arith, fits)))
 
 put-pair-requires : tie.Need-put-pair-requires
+unfolding outcomeOf
 put-pair-requires c κs =
-    let a = c .before .before .before .before .before .before .before .before .args in
-    let p = c .before .before .before .before .before .before .before .before .pre in
-    fits-swap (a .seg .now) (a .mem .now) (a .at) (a .end) (a .s) (a .r) (p .0) (p .1 .0 .0) (p .1 .1) _ (c .before .before .before .before .judge-in .ensures) _ _ _ (c .before .before .next .given .1)
+    let judged = c .before .before .before .before in
+    let steady = judged .before .before .before .before .pre in
+    let fits = room steady (judged .judge-in .ensures) (c .before .before .x .given .1) refl in
+    (steady .placed .order, (steady .placed .inside, omega (arith, fits)))
 
 cast-mark : tie.Need-cast-mark
 cast-mark c =
-    let p = c .before .before .before .before .before .before .before .before .pre in omega (arith, p .1 .1 .m-high, p .0 .small)
+    let steady = c .before .before .before .before .before .before .before .before .pre in
+    omega (arith, steady .ranged .m-high, steady .placed .small)
 
 cast-mark-2 : tie.Need-cast-mark-2
 cast-mark-2 c =
-    let p = c .before .before .before .before .before .before .before .before .before .pre in omega (arith, p .1 .1 .routine-high, p .1 .0 .0 .many)
+    let steady = c .before .before .before .before .before .before .before .before .before .pre in
+    omega (arith, steady .ranged .routine-high, steady .loaded .many)
 
 put-mark-requires : tie.Need-put-mark-requires
+unfolding outcomeOf
 put-mark-requires c κs =
-    let a = c .before .before .before .before .before .before .before .before .before .before .before .args in
-    let p = c .before .before .before .before .before .before .before .before .before .before .before .pre in
-    fits-call (a .seg .now) (a .mem .now) (a .at) (a .end) (a .s) (a .r) (p .0) (p .1 .0 .0) (p .1 .1) _ (c .before .before .before .before .before .before .before .judge-in .ensures) _ _ _ _ _ (c .before .before .before .before .before .sp3 .given .1)
+    let told = c .before .before .before .before .before in
+    let judged = told .before .before in
+    let steady = judged .before .before .before .before .pre in
+    let fits = room steady (judged .judge-in .ensures) (told .parent .given .1) refl in
+    (steady .placed .order, (steady .placed .inside, omega (arith, fits)))
+
+-- ---- what each answer leaves
 
 returns : tie.Need-returns
+unfolding outcomeOf settled written
 returns c =
-    let a = c .before .before .before .before .before .before .before .args in
-    let p = c .before .before .before .before .before .before .before .pre in
-    stood-move (a .seg .now) (a .mem .now) (a .at) (a .end) (a .s) (a .r) (p .0) (p .1 .0 .0) (p .1 .1) _ (c .before .before .before .judge-in .ensures) _ _ (c .before .sp .given .1)
+    let told = c .before .before in
+    let judged = told .before .before in
+    let steady = judged .before .before .before .before .pre in
+    stands steady (judged .judge-in .ensures) (told .sp .given .1) (record { registers = c .moved .ensures; kind = refl; memory = same steady })
 
 returns-2 : tie.Need-returns-2
+unfolding outcomeOf settled
 returns-2 c =
-    let a = c .before .before .before .before .before .before .before .before .before .before .before .args in
-    let p = c .before .before .before .before .before .before .before .before .before .before .before .pre in
-    stood-put (a .seg .now) (a .mem .now) (a .at) (a .end) (a .s) (a .r) (p .0) (p .1 .0 .0) (p .1 .1) _ (c .before .before .before .before .before .before .before .judge-in .ensures) _ _ _ _ (c .before .before .before .before .before .sp2 .given .1) (c .before .before .put-word .ensures)
+    let put = c .before .before .before in
+    let told = put .before .before .before in
+    let judged = told .before .before in
+    let steady = judged .before .before .before .before .pre in
+    stands steady (judged .judge-in .ensures) (told .v .given .1) (record { registers = c .moved2 .ensures; kind = refl; memory = put .put-word .ensures })
 
 returns-3 : tie.Need-returns-3
+unfolding outcomeOf settled
 returns-3 c =
-    let a = c .before .before .before .before .before .before .before .before .before .before .before .args in
-    let p = c .before .before .before .before .before .before .before .before .before .before .before .pre in
-    stood-swap (a .seg .now) (a .mem .now) (a .at) (a .end) (a .s) (a .r) (p .0) (p .1 .0 .0) (p .1 .1) _ (c .before .before .before .before .before .before .before .judge-in .ensures) _ _ _ (c .before .before .before .before .before .next .given .1) (c .before .before .put-pair .ensures)
+    let put = c .before .before .before in
+    let told = put .before .before .before in
+    let judged = told .before .before in
+    let steady = judged .before .before .before .before .pre in
+    stands steady (judged .judge-in .ensures) (told .v2 .given .1) (record { registers = c .moved3 .ensures; kind = refl; memory = put .put-word2 .ensures })
 
 returns-4 : tie.Need-returns-4
+unfolding outcomeOf settled
 returns-4 c =
-    let a = c .before .before .before .before .before .before .before .before .before .before .before .before .before .before .args in
-    let p = c .before .before .before .before .before .before .before .before .before .before .before .before .before .before .pre in
-    stood-call (a .seg .now) (a .mem .now) (a .at) (a .end) (a .s) (a .r) (p .0) (p .1 .0 .0) (p .1 .1) _ (c .before .before .before .before .before .before .before .before .before .before .judge-in .ensures) _ _ _ _ _ (c .before .before .before .before .before .before .before .before .sp3 .given .1) (c .before .before .put-mark .ensures) (c .before .before .before .before .mark .ensures)
+    let put = c .before .before .before in
+    let told = put .before .before .before in
+    let judged = told .before .before in
+    let steady = judged .before .before .before .before .pre in
+    stands steady (judged .judge-in .ensures) (told .x .given .1) (record { registers = c .moved4 .ensures; kind = refl; memory = put .put-pair .ensures })
 
 returns-5 : tie.Need-returns-5
+unfolding outcomeOf settled
 returns-5 c =
-    let a = c .before .before .before .before .before .before .before .args in
-    let p = c .before .before .before .before .before .before .before .pre in
-    stood-back (a .seg .now) (a .mem .now) (a .at) (a .end) (a .s) (a .r) (p .0) (p .1 .0 .0) (p .1 .1) _ (c .before .before .before .judge-in .ensures) _ _ _ _ (c .before .sp4 .given .1)
+    let put = c .before .before in
+    let marked = put .before .before in
+    let told = marked .before .before .before .before in
+    let judged = told .before .before in
+    let steady = judged .before .before .before .before .pre in
+    let mem = rw (marked .mark .ensures) at (put .put-mark .ensures) in
+    stands steady (judged .judge-in .ensures) (told .parent .given .1) (record { registers = refl; kind = refl; memory = mem })
 
 returns-6 : tie.Need-returns-6
+unfolding outcomeOf settled written
 returns-6 c =
-    let a = c .before .before .before .before .before .before .before .args in
-    let p = c .before .before .before .before .before .before .before .pre in
-    stood-bad (a .seg .now) (a .mem .now) (a .at) (a .end) (a .s) (a .r) (p .0) (p .1 .0 .0) (p .1 .1) _ (c .before .before .before .judge-in .ensures) _ (c .before .n .given .1)
+    let judged = c .before .before .before in
+    let steady = judged .before .before .before .before .pre in
+    stands steady (judged .judge-in .ensures) (c .before .sp2 .given .1) (record { registers = refl; kind = refl; memory = same steady })
 
 returns-7 : tie.Need-returns-7
+unfolding outcomeOf settled
 returns-7 c =
-    let a = c .before .before .before .before .before .before .args in
-    let p = c .before .before .before .before .before .before .pre in
-    stood-finish (a .seg .now) (a .mem .now) (a .at) (a .end) (a .s) (a .r) (p .0) (p .1 .0 .0) (p .1 .1) _ (c .before .before .judge-in .ensures) (c .enum-told .given .1)
+    let judged = c .before .before .before in
+    let steady = judged .before .before .before .before .pre in
+    stands steady (judged .judge-in .ensures) (c .before .n .given .1) (record { registers = refl; kind = refl; memory = same steady })
+
+returns-8 : tie.Need-returns-8
+unfolding outcomeOf settled
+returns-8 c =
+    let judged = c .before .before in
+    let steady = judged .before .before .before .before .pre in
+    stands steady (judged .judge-in .ensures) (c .enum-told .given .1) (record { registers = refl; kind = refl; memory = same steady })
 
 pub step-spec : {M : Type 1} → statement M
 step-spec =
@@ -79,10 +128,16 @@ step-spec =
     (tie.spec
     (λ c κs. search needs)
     (λ c. search needs)
+    (λ c κs. search needs)
     (λ c. search needs)
     put-word-requires
+    (λ c κs. search needs)
+    (λ c. search needs)
+    put-word-requires-2
+    (λ c κs. search needs)
     (λ c. search needs)
     put-pair-requires
+    (λ c κs. search needs)
     (λ c. search needs)
     cast-mark
     cast-mark-2
@@ -104,4 +159,6 @@ step-spec =
     (λ c. search needs)
     returns-6
     (λ c. search needs)
-    returns-7)
+    returns-7
+    (λ c. search needs)
+    returns-8)
