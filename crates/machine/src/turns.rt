@@ -22,13 +22,12 @@ pub fn facts_of(seg: &[u8]) -> Facts
     ensures { λ f. ⌜ Told (now (seg .entry)) f ⌝ }
 {
     let head = segment::head(seg);
-    let first = segment::routine_of(seg, 1);
     Facts {
         sex: sex_number(head.least),
         dict: head.dict as usize,
         count: head.count as usize,
         pool: head.pool as usize,
-        floor: 6 + first.datasize as usize,
+        floor: segment::floor(seg),
     }
 }
 

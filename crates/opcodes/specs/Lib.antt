@@ -1,3 +1,2 @@
 -- What a reader of this crate must believe: its definitions and statements, a module each.
 pub mod Packed
-pub mod First

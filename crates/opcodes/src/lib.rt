@@ -1,18 +1,7 @@
-// The table of first bytes, and the decoder's judgement of one.
-// Above: the judgement of a step, which takes the decoder's answer apart; the turn, which asks for the table once; and `instruction`, which
-// reads rows of it. Below: the bytes of `operand`, the opcode definition of `pmachine`.
-ghost use mathlib.Core.Path.{_≡_};
-ghost use Prim.Native.Nat.{_≤_};
-ghost use lib.ListN.{getD};
-ghost use Rattle.opcodes.specs.First.{firstOf};
+// The table of first bytes: operand forms, words taken and words given of every one, or the mark "not carried".
+// Above: `instruction`, which reads rows of it for listings and causes. Below: the opcode definition of `pmachine`. The step itself has no
+// table: its flat match tells the bytes apart (`judge`).
 ghost use Rattle.opcodes.specs.Packed.{Agrees};
-
-// The first byte of a carried instruction; no byte of the code; or a byte that is not carried.
-pub enum Decode {
-    Decoded(u8),
-    Outside,
-    Uncarried,
-}
 
 // Every first byte: its operands' digits to base 8 times 65,536, the words given times 256, and the words taken; or the top bit alone.
 const TABLE: [u32; 256] = [
@@ -279,29 +268,4 @@ pub fn table() -> [u32; 256]
     ensures { λ r. ⌜ Agrees r ⌝ }
 {
     TABLE
-}
-
-// The mark of a byte that is not carried.
-const MARK: u32 = 2147483648;
-
-fn row(t: &[u32; 256], op: u8) -> u32
-    ensures { λ r. ⌜ r ≡ getD (now (t .entry)) op 0 ⌝ }
-{
-    t[op as usize]
-}
-
-// The first byte at the counter. That a counter is 22 or more is what every step keeps.
-pub fn decoded(seg: &[u8], t: &[u32; 256], at: usize) -> Decode
-    requires { ⌜ 22 ≤ at ⌝ }
-    requires { ⌜ Agrees (now t) ⌝ }
-    ensures { λ r. ⌜ r ≡ firstOf (now (seg .entry)) at ⌝ }
-{
-    if seg.len() <= at {
-        return Decode::Outside;
-    }
-    let op = seg[at];
-    if MARK <= row(t, op) {
-        return Decode::Uncarried;
-    }
-    Decode::Decoded(op)
 }

@@ -10,7 +10,8 @@ use lib.ListN.{length, getD}
 use borrow.Author.Tests.{le-leb, lt-leb, ne-eqb, ltb-true, ltb-false}
 use Rattle.segment.specs.Head.{words}
 use Rattle.pmachine.specs.State.{Registers}
-use Rattle.pmachine.specs.Meaning.{Whose, globals, up, Meaning, constant, pool-offset, load, address, store, index, indirect, unary, binary, division, duplicate, swap, nothing, subrange, jump, jump-if, call, return}
+use Rattle.pmachine.specs.Meaning.{Whose, globals, up, Meaning, constant, pool-offset, load, address, store, index, indirect, unary, binary, division}
+use Rattle.pmachine.specs.Meaning.{duplicate, swap, nothing, subrange, jump, jump-if, call, return}
 use Rattle.pmachine.specs.Opcode.{Row, carried, uncarried, opcode, rowIn, appendixB}
 use Rattle.pmachine.specs.Decoding.{rowDecoded}
 use Rattle.pmachine.specs.Step.{Outcome, fault, goes, floor, moved, reached, reaches, broken, outcome, judgedBy}
@@ -21,9 +22,12 @@ use Rattle.plan.specs.declared.Facts.{Facts}
 use Rattle.plan.specs.declared.Planned.the-variants.{Move, Bad}
 use Rattle.plan.specs.declared.Entry.{Entry}
 use Rattle.plan.specs.Answer.{regsOf, outcomeOf}
-use Rattle.plan.specs.Mirror.{lack, pushed, swapped, one, two, gives, divided, checked, loaded, addressed, stored, readAt, storedAt, pooled, jumped, branched, entered, called, returned}
+use Rattle.plan.specs.Mirror.{lack, pushed, swapped, one, two, gives, divided, checked, loaded, addressed, stored, readAt, storedAt, pooled}
+use Rattle.plan.specs.Mirror.{jumped, branched, entered, called, returned}
 use Rattle.plan.specs.Told.{Ready}
-use Rattle.plan.proofs.Meanings.{instr, few-words, is-constant, is-duplicate, is-nothing, is-swap, is-unary, is-binary, is-division, is-load, is-address, is-store, no-load, no-address, no-store, no-call, is-pool, is-indirect, is-subrange, is-jump, is-branch, is-index, is-call, is-return}
+use Rattle.plan.proofs.Meanings.{instr, few-words, is-constant, is-duplicate, is-nothing, is-swap, is-unary, is-binary, is-division, is-load}
+use Rattle.plan.proofs.Meanings.{is-address, is-store, no-load, no-address, no-store, no-call, is-pool, is-indirect, is-subrange, is-jump}
+use Rattle.plan.proofs.Meanings.{is-branch, is-index, is-call, is-return}
 
 -- ---- rows
 

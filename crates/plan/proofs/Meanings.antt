@@ -13,13 +13,15 @@ use Rattle.basis.specs.Integer.{leqOf}
 use Rattle.basis.proofs.Bools.{inside-true}
 use Rattle.segment.specs.Head.{words, count, datasize, pool}
 use Rattle.pmachine.specs.State.{Registers}
-use Rattle.pmachine.specs.Meaning.{Whose, Meaning, constant, pool-offset, load, address, store, index, indirect, unary, binary, division, duplicate, swap, nothing, subrange, jump, jump-if, call, return}
+use Rattle.pmachine.specs.Meaning.{Whose, Meaning, constant, pool-offset, load, address, store, index, indirect, unary, binary, division, duplicate}
+use Rattle.pmachine.specs.Meaning.{swap, nothing, subrange, jump, jump-if, call, return}
 use Rattle.pmachine.specs.Decoding.{Instruction}
 use Rattle.pmachine.specs.Step.{fault, goes, floor, reached, reaches, broken, readable, wordAt, target, newRecord, markAt, resumes, moved, groundFor, firstFault, asks, effect, outcome}
 use Rattle.pmachine.specs.Sound.{Ranged}
 use Rattle.pmachine.proofs.Judged.{resumed}
 use Rattle.plan.specs.declared.Read.the-variants.{Value, Missing}
-use Rattle.plan.specs.Mirror.{pushed, one, two, gives, divided, checked, loaded, addressed, stored, readAt, storedAt, pooled, inCode, jumped, branched, entered, called, inOrder, returned}
+use Rattle.plan.specs.Mirror.{pushed, one, two, gives, divided, checked, loaded, addressed, stored, readAt, storedAt, pooled, inCode, jumped}
+use Rattle.plan.specs.Mirror.{branched, entered, called, inOrder, returned}
 use Rattle.plan.proofs.Links.{below-suc}
 
 abbrev pub instr : Meaning → ℕ → ℕ → ℕ → Instruction

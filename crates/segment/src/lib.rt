@@ -3,8 +3,8 @@
 use operand::byte_at;
 use operand::word_at;
 ghost use mathlib.Core.Path.{_≡_};
-ghost use Prim.Native.Nat.{_-_};
-ghost use Rattle.segment.specs.Head.{least, headOf, routineOf, freshOf};
+ghost use Prim.Native.Nat.{_+_, _-_};
+ghost use Rattle.segment.specs.Head.{least, datasize, headOf, routineOf, freshOf};
 
 // The numbers of a segment's header: how many words, whether words are least byte first, the
 // dictionary, relocation and pool pointers, the real size, and how many routines.
@@ -116,4 +116,12 @@ pub fn routine_of(seg: &[u8], k: u16) -> Routine
         exitic: word_at(seg, least, less_one(entry) as u32),
         start: 2 * (entry as u32 + 1),
     }
+}
+
+// 6+G, below which the stack pointer never lies: G is DATASIZE of routine 1.
+pub fn floor(seg: &[u8]) -> usize
+    ensures { λ r. ⌜ r ≡ 6 + datasize (now (seg .entry)) 1 ⌝ }
+{
+    let first = routine_of(seg, 1);
+    6 + first.datasize as usize
 }

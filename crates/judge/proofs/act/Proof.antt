@@ -19,48 +19,56 @@ use Rattle.judge.proofs.act.Tie as tie
 pub act-spec : {M : Type 1} → statement M
 unfolding opcode rowIn appendixB lawful keys
 act-spec = tie.close (tie.spec
+    -- LDCB
     (λ c κs. search needs)
     (λ c. c .match2 .keys1)
     (λ c. c .match2 .keys2)
     (λ c. let got = c .before .before in let arm = got .before in let ready = arm .before .before .before .before .pre .0 in
     cut ready _ (arm .match .keys1) refl (got .unsigned .ensures) (c .enum-told .given .1))
     (λ c κs. search needs)
+    -- LDCI
     (λ c κs. search needs)
     (λ c. c .match3 .keys1)
     (λ c. c .match3 .keys2)
     (λ c. let got = c .before .before in let arm = got .before in let ready = arm .before .before .before .before .pre .0 in
     cut ready _ (arm .match .keys2) refl (got .wide .ensures) (c .enum-told2 .given .1))
     (λ c κs. search needs)
+    -- LCO
     (λ c κs. search needs)
     (λ c. c .match4 .keys1)
     (λ c. c .match4 .keys2)
     (λ c. let got = c .before .before in let arm = got .before in let ready = arm .before .before .before .before .pre .0 in
     cut ready _ (arm .match .keys3) refl (got .big .ensures) (c .enum-told3 .given .1))
     (λ c κs. search needs)
+    -- LLA
     (λ c κs. search needs)
     (λ c. c .match5 .keys1)
     (λ c. c .match5 .keys2)
     (λ c. let got = c .before .before in let arm = got .before in let ready = arm .before .before .before .before .pre .0 in
     cut ready _ (arm .match .keys4) refl (got .big2 .ensures) (c .enum-told4 .given .1))
     (λ c κs. search needs)
+    -- LDO
     (λ c κs. search needs)
     (λ c. c .match6 .keys1)
     (λ c. c .match6 .keys2)
     (λ c. let got = c .before .before in let arm = got .before in let ready = arm .before .before .before .before .pre .0 in
     cut ready _ (arm .match .keys5) refl (got .big3 .ensures) (c .enum-told5 .given .1))
     (λ c κs. search needs)
+    -- LAO
     (λ c κs. search needs)
     (λ c. c .match7 .keys1)
     (λ c. c .match7 .keys2)
     (λ c. let got = c .before .before in let arm = got .before in let ready = arm .before .before .before .before .pre .0 in
     cut ready _ (arm .match .keys6) refl (got .big4 .ensures) (c .enum-told6 .given .1))
     (λ c κs. search needs)
+    -- LDL
     (λ c κs. search needs)
     (λ c. c .match8 .keys1)
     (λ c. c .match8 .keys2)
     (λ c. let got = c .before .before in let arm = got .before in let ready = arm .before .before .before .before .pre .0 in
     cut ready _ (arm .match .keys7) refl (got .big5 .ensures) (c .enum-told7 .given .1))
     (λ c κs. search needs)
+    -- LDA
     (λ c κs. search needs)
     (λ c. c .match9 .keys1)
     (λ c. c .match9 .keys2)
@@ -69,20 +77,24 @@ act-spec = tie.close (tie.spec
     (λ c κs. search needs)
     (λ c. c .match10 .keys1)
     (λ c. c .match10 .keys2)
-    (λ c. let second = c .before .before in let first = second .before .before .before .before in let arm = first .before in let ready = arm .before .before .before .before .pre .0 in
+    (λ c. let second = c .before .before in let first = second .before .before .before .before in let arm = first .before in
+    let ready = arm .before .before .before .before .pre .0 in
     cut-second ready _ (arm .match .keys8) refl (first .unsigned2 .ensures) (second .before .before .d .given .1) (second .big6 .ensures) (c .enum-told9 .given .1))
-    (λ c. let second = c .before .before .before .before in let first = second .before .before .before .before in let arm = first .before in let ready = arm .before .before .before .before .pre .0 in
-    deep ready _ (arm .match .keys8) refl (first .unsigned2 .ensures) (second .before .before .d .given .1) (second .big6 .ensures)
-    (c .before .before .a8 .given .1) (c .if1 .taken))
+    (λ c. let second = c .before .before .before .before in let first = second .before .before .before .before in let arm = first .before in
+    let ready = arm .before .before .before .before .pre .0 in
+    deep ready _ (arm .match .keys8) refl (first .unsigned2 .ensures) (second .before .before .d .given .1) (second .big6 .ensures) (c .before .before .a8 .given .1)
+    (c .if1 .taken))
     (λ c κs. search needs)
     (λ c. c .match11 .keys1)
     (λ c. c .match11 .keys2)
-    (λ c. let linked = c .before .before in let second = linked .before .before .before .before .before in let first = second .before .before .before .before in let arm = first .before in let ready = arm .before .before .before .before .pre .0 in
+    (λ c. let linked = c .before .before in let second = linked .before .before .before .before .before in let first = second .before .before .before .before in
+    let arm = first .before in let ready = arm .before .before .before .before .pre .0 in
     both ready _ (arm .match .keys8) refl (first .unsigned2 .ensures) (second .before .before .d .given .1) (second .big6 .ensures)
     (linked .before .before .before .a8 .given .1) (linked .before .if1 .left) refl
     (bad-adr ready _ (up _) (strayed _ _ _ _ (linked .«record» .ensures) (c .enum-told10 .given .1)) _ (bad _ 9)))
     (λ c κs. let ready = c .before .before .before .before .before .before .before .before .before .before .before .before .before .before .before .before .before .pre .0 in
     (omega arith, (rec-fits ready _ (c .before .before .before .«record» .ensures) (c .before .rec .given .1), ready .small)))
+    -- LOD
     (λ c κs. search needs)
     (λ c. c .match12 .keys1)
     (λ c. c .match12 .keys2)
@@ -91,51 +103,68 @@ act-spec = tie.close (tie.spec
     (λ c κs. search needs)
     (λ c. c .match13 .keys1)
     (λ c. c .match13 .keys2)
-    (λ c. let second = c .before .before in let first = second .before .before .before .before in let arm = first .before in let ready = arm .before .before .before .before .pre .0 in
+    (λ c. let second = c .before .before in let first = second .before .before .before .before in let arm = first .before in
+    let ready = arm .before .before .before .before .pre .0 in
     cut-second ready _ (arm .match .keys9) refl (first .unsigned3 .ensures) (second .before .before .d2 .given .1) (second .big7 .ensures) (c .enum-told12 .given .1))
-    (λ c. let second = c .before .before .before .before in let first = second .before .before .before .before in let arm = first .before in let ready = arm .before .before .before .before .pre .0 in
-    deep ready _ (arm .match .keys9) refl (first .unsigned3 .ensures) (second .before .before .d2 .given .1) (second .big7 .ensures)
-    (c .before .before .a9 .given .1) (c .if2 .taken))
+    (λ c. let second = c .before .before .before .before in let first = second .before .before .before .before in let arm = first .before in
+    let ready = arm .before .before .before .before .pre .0 in
+    deep ready _ (arm .match .keys9) refl (first .unsigned3 .ensures) (second .before .before .d2 .given .1) (second .big7 .ensures) (c .before .before .a9 .given .1)
+    (c .if2 .taken))
     (λ c κs. search needs)
     (λ c. c .match14 .keys1)
     (λ c. c .match14 .keys2)
-    (λ c. let linked = c .before .before in let second = linked .before .before .before .before .before in let first = second .before .before .before .before in let arm = first .before in let ready = arm .before .before .before .before .pre .0 in
+    (λ c. let linked = c .before .before in let second = linked .before .before .before .before .before in let first = second .before .before .before .before in
+    let arm = first .before in let ready = arm .before .before .before .before .pre .0 in
     both ready _ (arm .match .keys9) refl (first .unsigned3 .ensures) (second .before .before .d2 .given .1) (second .big7 .ensures)
     (linked .before .before .before .a9 .given .1) (linked .before .if2 .left) refl
     (bad-lod ready _ (up _) (strayed _ _ _ _ (linked .record2 .ensures) (c .enum-told13 .given .1)) _ (bad _ 9)))
     (λ c κs. let ready = c .before .before .before .before .before .before .before .before .before .before .before .before .before .before .before .before .before .pre .0 in
     (omega arith, rec-fits ready _ (c .before .before .before .record2 .ensures) (c .before .rec2 .given .1)))
+    -- UJP
     (λ c κs. search needs)
     (λ c. c .match15 .keys1)
     (λ c. c .match15 .keys2)
     (λ c. let got = c .before .before in let arm = got .before in let ready = arm .before .before .before .before .pre .0 in
     cut ready _ (arm .match .keys10) refl (got .signed .ensures) (c .enum-told14 .given .1))
-    (λ c κs. near (c .before .before .before .before .before .before .before .before .pre .0) SB _ (c .before .before .before .signed .ensures) (c .before .a10 .given .1))
+    (λ c κs. let ready = c .before .before .before .before .before .before .before .before .pre .0 in
+    near ready SB _ (c .before .before .before .signed .ensures) (c .before .a10 .given .1))
+    -- JPL
     (λ c κs. search needs)
     (λ c. c .match16 .keys1)
     (λ c. c .match16 .keys2)
     (λ c. let got = c .before .before in let arm = got .before in let ready = arm .before .before .before .before .pre .0 in
     cut ready _ (arm .match .keys11) refl (got .wide2 .ensures) (c .enum-told15 .given .1))
-    (λ c κs. near (c .before .before .before .before .before .before .before .before .pre .0) W _ (c .before .before .before .wide2 .ensures) (c .before .a11 .given .1))
+    (λ c κs. let ready = c .before .before .before .before .before .before .before .before .pre .0 in
+    near ready W _ (c .before .before .before .wide2 .ensures) (c .before .a11 .given .1))
+    -- MPI
     (λ c κs. search needs)
+    -- DVI
     (λ c κs. search needs)
+    -- MODI
     (λ c κs. search needs)
+    -- CPL
     (λ c κs. search needs)
     (λ c. c .match17 .keys1)
     (λ c. c .match17 .keys2)
     (λ c. let got = c .before .before in let arm = got .before in let ready = arm .before .before .before .before .pre .0 in
     cut ready _ (arm .match .keys15) refl (got .unsigned4 .ensures) (c .enum-told16 .given .1))
     (λ c κs. search needs)
-    (λ c κs. let ready = c .before .before .before .before .before .before .before .before .before .pre .0 in
-    (omega arith, near ready UB _ (c .before .before .before .before .unsigned4 .ensures) (c .before .before .a12 .given .1)))
+    (λ c κs. let ready = c .before .before .before .before .before .before .before .before .before .pre .0 in (
+      omega arith,
+      near ready UB _ (c .before .before .before .before .unsigned4 .ensures) (c .before .before .a12 .given .1),
+    ))
+    -- CPG
     (λ c κs. search needs)
     (λ c. c .match18 .keys1)
     (λ c. c .match18 .keys2)
     (λ c. let got = c .before .before in let arm = got .before in let ready = arm .before .before .before .before .pre .0 in
     cut ready _ (arm .match .keys16) refl (got .unsigned5 .ensures) (c .enum-told17 .given .1))
     (λ c κs. search needs)
-    (λ c κs. let ready = c .before .before .before .before .before .before .before .before .before .pre .0 in
-    (omega arith, near ready UB _ (c .before .before .before .before .unsigned5 .ensures) (c .before .before .a13 .given .1)))
+    (λ c κs. let ready = c .before .before .before .before .before .before .before .before .before .pre .0 in (
+      omega arith,
+      near ready UB _ (c .before .before .before .before .unsigned5 .ensures) (c .before .before .a13 .given .1),
+    ))
+    -- CPI
     (λ c κs. search needs)
     (λ c. c .match19 .keys1)
     (λ c. c .match19 .keys2)
@@ -144,45 +173,59 @@ act-spec = tie.close (tie.spec
     (λ c κs. search needs)
     (λ c. c .match20 .keys1)
     (λ c. c .match20 .keys2)
-    (λ c. let second = c .before .before in let first = second .before .before .before .before in let arm = first .before in let ready = arm .before .before .before .before .pre .0 in
+    (λ c. let second = c .before .before in let first = second .before .before .before .before in let arm = first .before in
+    let ready = arm .before .before .before .before .pre .0 in
     cut-second ready _ (arm .match .keys17) refl (first .unsigned6 .ensures) (second .before .before .d3 .given .1) (second .unsigned7 .ensures)
     (c .enum-told19 .given .1))
-    (λ c. let second = c .before .before .before .before in let first = second .before .before .before .before in let arm = first .before in let ready = arm .before .before .before .before .pre .0 in
+    (λ c. let second = c .before .before .before .before in let first = second .before .before .before .before in let arm = first .before in
+    let ready = arm .before .before .before .before .pre .0 in
     deep ready _ (arm .match .keys17) refl (first .unsigned6 .ensures) (second .before .before .d3 .given .1) (second .unsigned7 .ensures)
     (c .before .before .a14 .given .1) (c .if3 .taken))
     (λ c κs. search needs)
     (λ c. c .match21 .keys1)
     (λ c. c .match21 .keys2)
-    (λ c. let linked = c .before .before in let second = linked .before .before .before .before .before in let first = second .before .before .before .before in let arm = first .before in let ready = arm .before .before .before .before .pre .0 in
+    (λ c. let linked = c .before .before in let second = linked .before .before .before .before .before in let first = second .before .before .before .before in
+    let arm = first .before in let ready = arm .before .before .before .before .pre .0 in
     both ready _ (arm .match .keys17) refl (first .unsigned6 .ensures) (second .before .before .d3 .given .1) (second .unsigned7 .ensures)
     (linked .before .before .before .a14 .given .1) (linked .before .if3 .left) refl
     (bad-cal ready _ (up _) (strayed _ _ _ _ (linked .record3 .ensures) (c .enum-told20 .given .1)) _ (bad _ 9)))
     (λ c κs. search needs)
-    (λ c κs. let ready = c .before .before .before .before .before .before .before .before .before .before .before .before .before .before .before .before .before .before .pre .0 in
-    (omega (arith, rec-fits ready _ (c .before .before .before .before .record3 .ensures) (c .before .before .rec3 .given .1)), near ready UB _ (c .before .before .before .before .before .before .before .before .before .unsigned7 .ensures) (c .before .before .before .before .before .before .before .a14 .given .1)))
+    (λ c κs. let ready = c .before .before .before .before .before .before .before .before .before .before .before .before .before .before .before .before .before .before .pre .0 in (
+      omega (arith, rec-fits ready _ (c .before .before .before .before .record3 .ensures) (c .before .before .rec3 .given .1)),
+      near ready UB _ (c .before .before .before .before .before .before .before .before .before .unsigned7 .ensures) (c .before .before .before .before .before .before .before .a14 .given .1),
+    ))
+    -- RPU
     (λ c κs. search needs)
     (λ c. c .match22 .keys1)
     (λ c. c .match22 .keys2)
     (λ c. let got = c .before .before in let arm = got .before in let ready = arm .before .before .before .before .pre .0 in
     cut ready _ (arm .match .keys18) refl (got .big8 .ensures) (c .enum-told21 .given .1))
     (λ c κs. search needs)
+    -- LDCN
     (λ c κs. search needs)
+    -- LOR
     (λ c κs. search needs)
+    -- LAND
     (λ c κs. search needs)
+    -- ADI
     (λ c κs. search needs)
+    -- SBI
     (λ c κs. search needs)
+    -- STL
     (λ c κs. search needs)
     (λ c. c .match23 .keys1)
     (λ c. c .match23 .keys2)
     (λ c. let got = c .before .before in let arm = got .before in let ready = arm .before .before .before .before .pre .0 in
     cut ready _ (arm .match .keys25) refl (got .big9 .ensures) (c .enum-told22 .given .1))
     (λ c κs. search needs)
+    -- SRO
     (λ c κs. search needs)
     (λ c. c .match24 .keys1)
     (λ c. c .match24 .keys2)
     (λ c. let got = c .before .before in let arm = got .before in let ready = arm .before .before .before .before .pre .0 in
     cut ready _ (arm .match .keys26) refl (got .big10 .ensures) (c .enum-told23 .given .1))
     (λ c κs. search needs)
+    -- STR
     (λ c κs. search needs)
     (λ c. c .match25 .keys1)
     (λ c. c .match25 .keys2)
@@ -191,24 +234,29 @@ act-spec = tie.close (tie.spec
     (λ c κs. search needs)
     (λ c. c .match26 .keys1)
     (λ c. c .match26 .keys2)
-    (λ c. let second = c .before .before in let first = second .before .before .before .before in let arm = first .before in let ready = arm .before .before .before .before .pre .0 in
+    (λ c. let second = c .before .before in let first = second .before .before .before .before in let arm = first .before in
+    let ready = arm .before .before .before .before .pre .0 in
     cut-second ready _ (arm .match .keys27) refl (first .unsigned8 .ensures) (second .before .before .d4 .given .1) (second .big11 .ensures) (c .enum-told25 .given .1))
-    (λ c. let second = c .before .before .before .before in let first = second .before .before .before .before in let arm = first .before in let ready = arm .before .before .before .before .pre .0 in
-    deep ready _ (arm .match .keys27) refl (first .unsigned8 .ensures) (second .before .before .d4 .given .1) (second .big11 .ensures)
-    (c .before .before .a18 .given .1) (c .if4 .taken))
+    (λ c. let second = c .before .before .before .before in let first = second .before .before .before .before in let arm = first .before in
+    let ready = arm .before .before .before .before .pre .0 in
+    deep ready _ (arm .match .keys27) refl (first .unsigned8 .ensures) (second .before .before .d4 .given .1) (second .big11 .ensures) (c .before .before .a18 .given .1)
+    (c .if4 .taken))
     (λ c. search needs)
-    (λ c. let second = c .before .before .before .before .before .before in let first = second .before .before .before .before in let arm = first .before in let ready = arm .before .before .before .before .pre .0 in
+    (λ c. let second = c .before .before .before .before .before .before in let first = second .before .before .before .before in let arm = first .before in
+    let ready = arm .before .before .before .before .pre .0 in
     both ready _ (arm .match .keys27) refl (first .unsigned8 .ensures) (second .before .before .d4 .given .1) (second .big11 .ensures)
     (c .before .before .before .before .a18 .given .1) (c .before .before .if4 .left) refl (lacks ready _ _ 1 0 (bad _ 3) (c .if5 .taken)))
     (λ c κs. search needs)
     (λ c. c .match27 .keys1)
     (λ c. c .match27 .keys2)
-    (λ c. let linked = c .before .before in let second = linked .before .before .before .before .before .before .before in let first = second .before .before .before .before in let arm = first .before in let ready = arm .before .before .before .before .pre .0 in
+    (λ c. let linked = c .before .before in let second = linked .before .before .before .before .before .before .before in
+    let first = second .before .before .before .before in let arm = first .before in let ready = arm .before .before .before .before .pre .0 in
     both ready _ (arm .match .keys27) refl (first .unsigned8 .ensures) (second .before .before .d4 .given .1) (second .big11 .ensures)
     (linked .before .before .before .before .before .a18 .given .1) (linked .before .before .before .if4 .left) refl
     (bad-sto ready _ (up _) (strayed _ _ _ _ (linked .record4 .ensures) (c .enum-told26 .given .1)) _ (bad _ 9) (linked .before .if5 .left)))
     (λ c κs. let ready = c .before .before .before .before .before .before .before .before .before .before .before .before .before .before .before .before .before .before .before .pre .0 in
     (omega arith, (rec-fits ready _ (c .before .before .before .record4 .ensures) (c .before .rec4 .given .1), ready .small)))
+    -- SLOD1
     (λ c κs. search needs)
     (λ c. c .match28 .keys1)
     (λ c. c .match28 .keys2)
@@ -217,11 +265,13 @@ act-spec = tie.close (tie.spec
     (λ c κs. search needs)
     (λ c. c .match29 .keys1)
     (λ c. c .match29 .keys2)
-    (λ c. let linked = c .before .before in let got = linked .before .before .before .before in let arm = got .before in let ready = arm .before .before .before .before .pre .0 in
+    (λ c. let linked = c .before .before in let got = linked .before .before .before .before in let arm = got .before in
+    let ready = arm .before .before .before .before .pre .0 in
     one ready _ (arm .match .keys28) refl (got .big12 .ensures) (linked .before .before .a19 .given .1) refl
     (bad-lod ready _ (up 1) (strayed _ _ _ _ (linked .record5 .ensures) (c .enum-told28 .given .1)) _ (bad _ 9)))
     (λ c κs. let ready = c .before .before .before .before .before .before .before .before .before .before .before .before .pre .0 in
     (omega arith, rec-fits ready 1 (c .before .before .before .record5 .ensures) (c .before .rec5 .given .1)))
+    -- SLOD2
     (λ c κs. search needs)
     (λ c. c .match30 .keys1)
     (λ c. c .match30 .keys2)
@@ -230,20 +280,31 @@ act-spec = tie.close (tie.spec
     (λ c κs. search needs)
     (λ c. c .match31 .keys1)
     (λ c. c .match31 .keys2)
-    (λ c. let linked = c .before .before in let got = linked .before .before .before .before in let arm = got .before in let ready = arm .before .before .before .before .pre .0 in
+    (λ c. let linked = c .before .before in let got = linked .before .before .before .before in let arm = got .before in
+    let ready = arm .before .before .before .before .pre .0 in
     one ready _ (arm .match .keys29) refl (got .big13 .ensures) (linked .before .before .a20 .given .1) refl
     (bad-lod ready _ (up 2) (strayed _ _ _ _ (linked .record6 .ensures) (c .enum-told30 .given .1)) _ (bad _ 9)))
     (λ c κs. let ready = c .before .before .before .before .before .before .before .before .before .before .before .before .pre .0 in
     (omega arith, rec-fits ready 2 (c .before .before .before .record6 .ensures) (c .before .rec6 .given .1)))
+    -- EQUI
     (λ c κs. search needs)
+    -- NEQI
     (λ c κs. search needs)
+    -- LEQI
     (λ c κs. search needs)
+    -- GEQI
     (λ c κs. search needs)
+    -- LEUSW
     (λ c κs. search needs)
+    -- GEUSW
     (λ c κs. search needs)
+    -- SWAP
     (λ c κs. search needs)
+    -- STO
     (λ c κs. search needs)
+    -- CHK
     (λ c κs. search needs)
+    -- FJP
     (λ c κs. search needs)
     (λ c. c .match32 .keys1)
     (λ c. c .match32 .keys2)
@@ -252,7 +313,9 @@ act-spec = tie.close (tie.spec
     (λ c. search needs)
     (λ c. let got = c .before .before .before .before .before in let arm = got .before in let ready = arm .before .before .before .before .pre .0 in
     one ready _ (arm .match .keys39) refl (got .signed2 .ensures) (c .before .before .before .a21 .given .1) refl (lacks ready _ _ 1 0 (bad _ 3) (c .if6 .taken)))
-    (λ c κs. (near (c .before .before .before .before .before .before .before .before .before .before .pre .0) SB _ (c .before .before .before .before .before .signed2 .ensures) (c .before .before .before .a21 .given .1), search needs))
+    (λ c κs. let ready = c .before .before .before .before .before .before .before .before .before .before .pre .0 in
+    (near ready SB _ (c .before .before .before .before .before .signed2 .ensures) (c .before .before .before .a21 .given .1), search needs))
+    -- FJPL
     (λ c κs. search needs)
     (λ c. c .match33 .keys1)
     (λ c. c .match33 .keys2)
@@ -261,19 +324,28 @@ act-spec = tie.close (tie.spec
     (λ c. search needs)
     (λ c. let got = c .before .before .before .before .before in let arm = got .before in let ready = arm .before .before .before .before .pre .0 in
     one ready _ (arm .match .keys40) refl (got .wide3 .ensures) (c .before .before .before .a22 .given .1) refl (lacks ready _ _ 1 0 (bad _ 3) (c .if7 .taken)))
-    (λ c κs. (near (c .before .before .before .before .before .before .before .before .before .before .pre .0) W _ (c .before .before .before .before .before .wide3 .ensures) (c .before .before .before .a22 .given .1), search needs))
+    (λ c κs. let ready = c .before .before .before .before .before .before .before .before .before .before .pre .0 in
+    (near ready W _ (c .before .before .before .before .before .wide3 .ensures) (c .before .before .before .a22 .given .1), search needs))
+    -- ABI
     (λ c κs. search needs)
+    -- NGI
     (λ c κs. search needs)
+    -- DUP1
     (λ c κs. search needs)
+    -- LNOT
     (λ c κs. search needs)
+    -- IND
     (λ c κs. search needs)
     (λ c. c .match34 .keys1)
     (λ c. c .match34 .keys2)
     (λ c. let got = c .before .before in let arm = got .before in let ready = arm .before .before .before .before .pre .0 in
     cut ready _ (arm .match .keys45) refl (got .big14 .ensures) (c .enum-told33 .given .1))
     (λ c κs. search needs)
+    -- INCI
     (λ c κs. search needs)
+    -- DECI
     (λ c κs. search needs)
+    -- SCPI1
     (λ c κs. search needs)
     (λ c. c .match35 .keys1)
     (λ c. c .match35 .keys2)
@@ -282,12 +354,16 @@ act-spec = tie.close (tie.spec
     (λ c κs. search needs)
     (λ c. c .match36 .keys1)
     (λ c. c .match36 .keys2)
-    (λ c. let linked = c .before .before in let got = linked .before .before .before .before in let arm = got .before in let ready = arm .before .before .before .before .pre .0 in
+    (λ c. let linked = c .before .before in let got = linked .before .before .before .before in let arm = got .before in
+    let ready = arm .before .before .before .before .pre .0 in
     one ready _ (arm .match .keys48) refl (got .unsigned9 .ensures) (linked .before .before .a24 .given .1) refl
     (bad-cal ready _ (up 1) (strayed _ _ _ _ (linked .record7 .ensures) (c .enum-told35 .given .1)) _ (bad _ 9)))
     (λ c κs. search needs)
-    (λ c κs. let ready = c .before .before .before .before .before .before .before .before .before .before .before .before .before .pre .0 in
-    (omega (arith, rec-fits ready 1 (c .before .before .before .before .record7 .ensures) (c .before .before .rec7 .given .1)), near ready UB _ (c .before .before .before .before .before .before .before .before .unsigned9 .ensures) (c .before .before .before .before .before .before .a24 .given .1)))
+    (λ c κs. let ready = c .before .before .before .before .before .before .before .before .before .before .before .before .before .pre .0 in (
+      omega (arith, rec-fits ready 1 (c .before .before .before .before .record7 .ensures) (c .before .before .rec7 .given .1)),
+      near ready UB _ (c .before .before .before .before .before .before .before .before .unsigned9 .ensures) (c .before .before .before .before .before .before .a24 .given .1),
+    ))
+    -- SCPI2
     (λ c κs. search needs)
     (λ c. c .match37 .keys1)
     (λ c. c .match37 .keys2)
@@ -296,12 +372,16 @@ act-spec = tie.close (tie.spec
     (λ c κs. search needs)
     (λ c. c .match38 .keys1)
     (λ c. c .match38 .keys2)
-    (λ c. let linked = c .before .before in let got = linked .before .before .before .before in let arm = got .before in let ready = arm .before .before .before .before .pre .0 in
+    (λ c. let linked = c .before .before in let got = linked .before .before .before .before in let arm = got .before in
+    let ready = arm .before .before .before .before .pre .0 in
     one ready _ (arm .match .keys49) refl (got .unsigned10 .ensures) (linked .before .before .a25 .given .1) refl
     (bad-cal ready _ (up 2) (strayed _ _ _ _ (linked .record8 .ensures) (c .enum-told37 .given .1)) _ (bad _ 9)))
     (λ c κs. search needs)
-    (λ c κs. let ready = c .before .before .before .before .before .before .before .before .before .before .before .before .before .pre .0 in
-    (omega (arith, rec-fits ready 2 (c .before .before .before .before .record8 .ensures) (c .before .before .rec8 .given .1)), near ready UB _ (c .before .before .before .before .before .before .before .before .unsigned10 .ensures) (c .before .before .before .before .before .before .a25 .given .1)))
+    (λ c κs. let ready = c .before .before .before .before .before .before .before .before .before .before .before .before .before .pre .0 in (
+      omega (arith, rec-fits ready 2 (c .before .before .before .before .record8 .ensures) (c .before .before .rec8 .given .1)),
+      near ready UB _ (c .before .before .before .before .before .before .before .before .unsigned10 .ensures) (c .before .before .before .before .before .before .a25 .given .1),
+    ))
+    -- TJP
     (λ c κs. search needs)
     (λ c. c .match39 .keys1)
     (λ c. c .match39 .keys2)
@@ -310,7 +390,9 @@ act-spec = tie.close (tie.spec
     (λ c. search needs)
     (λ c. let got = c .before .before .before .before .before in let arm = got .before in let ready = arm .before .before .before .before .pre .0 in
     one ready _ (arm .match .keys50) refl (got .signed3 .ensures) (c .before .before .before .a26 .given .1) refl (lacks ready _ _ 1 0 (bad _ 3) (c .if8 .taken)))
-    (λ c κs. (near (c .before .before .before .before .before .before .before .before .before .before .pre .0) SB _ (c .before .before .before .before .before .signed3 .ensures) (c .before .before .before .a26 .given .1), search needs))
+    (λ c κs. let ready = c .before .before .before .before .before .before .before .before .before .before .pre .0 in
+    (near ready SB _ (c .before .before .before .before .before .signed3 .ensures) (c .before .before .before .a26 .given .1), search needs))
+    -- the short forms
     (λ c κs. search needs)
     (λ c. search needs)
     (λ c. slim _ _ (c .if10 .taken) (omega arith))
@@ -326,122 +408,181 @@ act-spec = tie.close (tie.spec
     (λ c κs. search needs)
     (λ c. slim _ _ (c .if16 .taken) (omega arith))
     (λ c κs. search needs)
+    -- LDCB
     (λ c. let got = c .before .before .before .before in let arm = got .before in let ready = arm .before .before .before .before .pre .0 in
     one ready _ (arm .match .keys1) refl (got .unsigned .ensures) (c .before .before .a .given .1) refl (con ready _ _ (c .push .ensures)))
+    -- LDCI
     (λ c. let got = c .before .before .before .before in let arm = got .before in let ready = arm .before .before .before .before .pre .0 in
     one ready _ (arm .match .keys2) refl (got .wide .ensures) (c .before .before .a2 .given .1) refl (con ready _ _ (c .push2 .ensures)))
+    -- LCO
     (λ c. let got = c .before .before .before .before in let arm = got .before in let ready = arm .before .before .before .before .pre .0 in
     one ready _ (arm .match .keys3) refl (got .big .ensures) (c .before .before .a3 .given .1) refl (pol ready _ _ (c .pool-offset .ensures)))
+    -- LLA
     (λ c. let got = c .before .before .before .before in let arm = got .before in let ready = arm .before .before .before .before .pre .0 in
     one ready _ (arm .match .keys4) refl (got .big2 .ensures) (c .before .before .a4 .given .1) refl (adr ready _ (up 0) (here _ _) _ (c .address .ensures)))
+    -- LDO
     (λ c. let got = c .before .before .before .before in let arm = got .before in let ready = arm .before .before .before .before .pre .0 in
     one ready _ (arm .match .keys5) refl (got .big3 .ensures) (c .before .before .a5 .given .1) refl (lod ready _ globals (at-globals _ _) _ (c .load .ensures)))
+    -- LAO
     (λ c. let got = c .before .before .before .before in let arm = got .before in let ready = arm .before .before .before .before .pre .0 in
     one ready _ (arm .match .keys6) refl (got .big4 .ensures) (c .before .before .a6 .given .1) refl (adr ready _ globals (at-globals _ _) _ (c .address2 .ensures)))
+    -- LDL
     (λ c. let got = c .before .before .before .before in let arm = got .before in let ready = arm .before .before .before .before .pre .0 in
     one ready _ (arm .match .keys7) refl (got .big5 .ensures) (c .before .before .a7 .given .1) refl (lod ready _ (up 0) (here _ _) _ (c .load2 .ensures)))
-    (λ c. let linked = c .before .before .before .before in let second = linked .before .before .before .before .before in let first = second .before .before .before .before in let arm = first .before in let ready = arm .before .before .before .before .pre .0 in
+    -- LDA
+    (λ c. let linked = c .before .before .before .before in let second = linked .before .before .before .before .before in
+    let first = second .before .before .before .before in let arm = first .before in let ready = arm .before .before .before .before .pre .0 in
     both ready _ (arm .match .keys8) refl (first .unsigned2 .ensures) (second .before .before .d .given .1) (second .big6 .ensures)
     (linked .before .before .before .a8 .given .1) (linked .before .if1 .left) refl
     (adr ready _ (up _) (walked _ _ _ _ (linked .«record» .ensures) _ (c .before .before .rec .given .1)) _ (c .address3 .ensures)))
-    (λ c. let linked = c .before .before .before .before in let second = linked .before .before .before .before .before in let first = second .before .before .before .before in let arm = first .before in let ready = arm .before .before .before .before .pre .0 in
+    -- LOD
+    (λ c. let linked = c .before .before .before .before in let second = linked .before .before .before .before .before in
+    let first = second .before .before .before .before in let arm = first .before in let ready = arm .before .before .before .before .pre .0 in
     both ready _ (arm .match .keys9) refl (first .unsigned3 .ensures) (second .before .before .d2 .given .1) (second .big7 .ensures)
     (linked .before .before .before .a9 .given .1) (linked .before .if2 .left) refl
     (lod ready _ (up _) (walked _ _ _ _ (linked .record2 .ensures) _ (c .before .before .rec2 .given .1)) _ (c .load3 .ensures)))
+    -- UJP
     (λ c. let got = c .before .before .before .before in let arm = got .before in let ready = arm .before .before .before .before .pre .0 in
     one ready _ (arm .match .keys10) refl (got .signed .ensures) (c .before .before .a10 .given .1) refl (jmp ready _ _ (c .jump .ensures)))
+    -- JPL
     (λ c. let got = c .before .before .before .before in let arm = got .before in let ready = arm .before .before .before .before .pre .0 in
     one ready _ (arm .match .keys11) refl (got .wide2 .ensures) (c .before .before .a11 .given .1) refl (jmp ready _ _ (c .jump2 .ensures)))
+    -- MPI
     (λ c. let arm = c .before in let ready = arm .before .before .before .before .pre .0 in
     bare ready _ (arm .match .keys12) refl (bin ready _ mulOf (c .two-words .ensures)))
+    -- DVI
     (λ c. let arm = c .before in let ready = arm .before .before .before .before .pre .0 in
     bare ready _ (arm .match .keys13) refl (div ready _ quotOf (c .divide .ensures)))
+    -- MODI
     (λ c. let arm = c .before in let ready = arm .before .before .before .before .pre .0 in
     bare ready _ (arm .match .keys14) refl (div ready _ remOf (c .divide2 .ensures)))
+    -- CPL
     (λ c. let got = c .before .before .before .before .before in let arm = got .before in let ready = arm .before .before .before .before .pre .0 in
     one ready _ (arm .match .keys15) refl (got .unsigned4 .ensures) (c .before .before .before .a12 .given .1) refl
     (cal ready _ (up 0) (here _ _) _ (c .call .ensures) (c .before .enter .ensures)))
+    -- CPG
     (λ c. let got = c .before .before .before .before .before in let arm = got .before in let ready = arm .before .before .before .before .pre .0 in
     one ready _ (arm .match .keys16) refl (got .unsigned5 .ensures) (c .before .before .before .a13 .given .1) refl
     (cal ready _ globals (at-globals _ _) _ (c .call2 .ensures) (c .before .enter2 .ensures)))
-    (λ c. let linked = c .before .before .before .before .before in let second = linked .before .before .before .before .before in let first = second .before .before .before .before in let arm = first .before in let ready = arm .before .before .before .before .pre .0 in
+    -- CPI
+    (λ c. let linked = c .before .before .before .before .before in let second = linked .before .before .before .before .before in
+    let first = second .before .before .before .before in let arm = first .before in let ready = arm .before .before .before .before .pre .0 in
     both ready _ (arm .match .keys17) refl (first .unsigned6 .ensures) (second .before .before .d3 .given .1) (second .unsigned7 .ensures)
     (linked .before .before .before .a14 .given .1) (linked .before .if3 .left) refl
     (cal ready _ (up _) (walked _ _ _ _ (linked .record3 .ensures) _ (c .before .before .before .rec3 .given .1)) _ (c .call3 .ensures) (c .before .enter3 .ensures)))
+    -- RPU
     (λ c. let got = c .before .before .before .before in let arm = got .before in let ready = arm .before .before .before .before .pre .0 in
     one ready _ (arm .match .keys18) refl (got .big8 .ensures) (c .before .before .a15 .given .1) refl (ret ready _ _ (c .give-back .ensures)))
+    -- LDCN
     (λ c. let arm = c .before in let ready = arm .before .before .before .before .pre .0 in
     bare ready _ (arm .match .keys19) refl (con ready _ _ (c .push3 .ensures)))
+    -- NOP
     (λ c. let arm = c in let ready = arm .before .before .before .before .pre .0 in bare ready _ (arm .match .keys20) refl (nop ready _ (moves _ _ _)))
+    -- LOR
     (λ c. let arm = c .before in let ready = arm .before .before .before .before .pre .0 in
     bare ready _ (arm .match .keys21) refl (bin ready _ orOf (c .two-words2 .ensures)))
+    -- LAND
     (λ c. let arm = c .before in let ready = arm .before .before .before .before .pre .0 in
     bare ready _ (arm .match .keys22) refl (bin ready _ andOf (c .two-words3 .ensures)))
+    -- ADI
     (λ c. let arm = c .before in let ready = arm .before .before .before .before .pre .0 in
     bare ready _ (arm .match .keys23) refl (bin ready _ addOf (c .two-words4 .ensures)))
+    -- SBI
     (λ c. let arm = c .before in let ready = arm .before .before .before .before .pre .0 in
     bare ready _ (arm .match .keys24) refl (bin ready _ subOf (c .two-words5 .ensures)))
+    -- STL
     (λ c. let got = c .before .before .before .before in let arm = got .before in let ready = arm .before .before .before .before .pre .0 in
     one ready _ (arm .match .keys25) refl (got .big9 .ensures) (c .before .before .a16 .given .1) refl (sto ready _ (up 0) (here _ _) _ (c .store .ensures)))
+    -- SRO
     (λ c. let got = c .before .before .before .before in let arm = got .before in let ready = arm .before .before .before .before .pre .0 in
     one ready _ (arm .match .keys26) refl (got .big10 .ensures) (c .before .before .a17 .given .1) refl (sto ready _ globals (at-globals _ _) _ (c .store2 .ensures)))
-    (λ c. let linked = c .before .before .before .before in let second = linked .before .before .before .before .before .before .before in let first = second .before .before .before .before in let arm = first .before in let ready = arm .before .before .before .before .pre .0 in
+    -- STR
+    (λ c. let linked = c .before .before .before .before in let second = linked .before .before .before .before .before .before .before in
+    let first = second .before .before .before .before in let arm = first .before in let ready = arm .before .before .before .before .pre .0 in
     both ready _ (arm .match .keys27) refl (first .unsigned8 .ensures) (second .before .before .d4 .given .1) (second .big11 .ensures)
     (linked .before .before .before .before .before .a18 .given .1) (linked .before .before .before .if4 .left) refl
     (sto ready _ (up _) (walked _ _ _ _ (linked .record4 .ensures) _ (c .before .before .rec4 .given .1)) _ (c .store3 .ensures)))
-    (λ c. let linked = c .before .before .before .before in let got = linked .before .before .before .before in let arm = got .before in let ready = arm .before .before .before .before .pre .0 in
+    -- SLOD1
+    (λ c. let linked = c .before .before .before .before in let got = linked .before .before .before .before in let arm = got .before in
+    let ready = arm .before .before .before .before .pre .0 in
     one ready _ (arm .match .keys28) refl (got .big12 .ensures) (linked .before .before .a19 .given .1) refl
     (lod ready _ (up 1) (walked _ _ _ _ (linked .record5 .ensures) _ (c .before .before .rec5 .given .1)) _ (c .load4 .ensures)))
-    (λ c. let linked = c .before .before .before .before in let got = linked .before .before .before .before in let arm = got .before in let ready = arm .before .before .before .before .pre .0 in
+    -- SLOD2
+    (λ c. let linked = c .before .before .before .before in let got = linked .before .before .before .before in let arm = got .before in
+    let ready = arm .before .before .before .before .pre .0 in
     one ready _ (arm .match .keys29) refl (got .big13 .ensures) (linked .before .before .a20 .given .1) refl
     (lod ready _ (up 2) (walked _ _ _ _ (linked .record6 .ensures) _ (c .before .before .rec6 .given .1)) _ (c .load5 .ensures)))
+    -- EQUI
     (λ c. let arm = c .before in let ready = arm .before .before .before .before .pre .0 in
     bare ready _ (arm .match .keys30) refl (bin ready _ eqOf (c .two-words6 .ensures)))
+    -- NEQI
     (λ c. let arm = c .before in let ready = arm .before .before .before .before .pre .0 in
     bare ready _ (arm .match .keys31) refl (bin ready _ neOf (c .two-words7 .ensures)))
+    -- LEQI
     (λ c. let arm = c .before in let ready = arm .before .before .before .before .pre .0 in
     bare ready _ (arm .match .keys32) refl (bin ready _ leqOf (c .two-words8 .ensures)))
+    -- GEQI
     (λ c. let arm = c .before in let ready = arm .before .before .before .before .pre .0 in
     bare ready _ (arm .match .keys33) refl (bin ready _ geqOf (c .two-words9 .ensures)))
+    -- LEUSW
     (λ c. let arm = c .before in let ready = arm .before .before .before .before .pre .0 in
     bare ready _ (arm .match .keys34) refl (bin ready _ leuOf (c .two-words10 .ensures)))
+    -- GEUSW
     (λ c. let arm = c .before in let ready = arm .before .before .before .before .pre .0 in
     bare ready _ (arm .match .keys35) refl (bin ready _ geuOf (c .two-words11 .ensures)))
+    -- SWAP
     (λ c. let arm = c .before in let ready = arm .before .before .before .before .pre .0 in
     bare ready _ (arm .match .keys36) refl (swp ready _ (c .swap .ensures)))
+    -- STO
     (λ c. let arm = c .before in let ready = arm .before .before .before .before .pre .0 in
     bare ready _ (arm .match .keys37) refl (sta ready _ (c .store-at .ensures)))
+    -- CHK
     (λ c. let arm = c .before in let ready = arm .before .before .before .before .pre .0 in
     bare ready _ (arm .match .keys38) refl (chk ready _ (c .check-range .ensures)))
+    -- FJP
     (λ c. let got = c .before .before .before .before .before .before in let arm = got .before in let ready = arm .before .before .before .before .pre .0 in
     one ready _ (arm .match .keys39) refl (got .signed2 .ensures) (c .before .before .before .before .a21 .given .1) refl
     (bra ready _ 0 _ (c .before .if6 .left) (c .branch .ensures)))
+    -- FJPL
     (λ c. let got = c .before .before .before .before .before .before in let arm = got .before in let ready = arm .before .before .before .before .pre .0 in
     one ready _ (arm .match .keys40) refl (got .wide3 .ensures) (c .before .before .before .before .a22 .given .1) refl
     (bra ready _ 0 _ (c .before .if7 .left) (c .branch2 .ensures)))
+    -- ABI
     (λ c. let arm = c .before in let ready = arm .before .before .before .before .pre .0 in
     bare ready _ (arm .match .keys41) refl (un ready _ magOf (c .one-word .ensures)))
+    -- NGI
     (λ c. let arm = c .before in let ready = arm .before .before .before .before .pre .0 in
     bare ready _ (arm .match .keys42) refl (un ready _ negOf (c .one-word2 .ensures)))
+    -- DUP1
     (λ c. let arm = c .before in let ready = arm .before .before .before .before .pre .0 in
     bare ready _ (arm .match .keys43) refl (dup ready _ (c .duplicate .ensures)))
+    -- LNOT
     (λ c. let arm = c .before in let ready = arm .before .before .before .before .pre .0 in
     bare ready _ (arm .match .keys44) refl (un ready _ notOf (c .one-word3 .ensures)))
+    -- IND
     (λ c. let got = c .before .before .before .before in let arm = got .before in let ready = arm .before .before .before .before .pre .0 in
     one ready _ (arm .match .keys45) refl (got .big14 .ensures) (c .before .before .a23 .given .1) refl (ind ready _ _ (c .index .ensures)))
+    -- INCI
     (λ c. let arm = c .before in let ready = arm .before .before .before .before .pre .0 in
     bare ready _ (arm .match .keys46) refl (un ready _ incOf (c .one-word4 .ensures)))
+    -- DECI
     (λ c. let arm = c .before in let ready = arm .before .before .before .before .pre .0 in
     bare ready _ (arm .match .keys47) refl (un ready _ decOf (c .one-word5 .ensures)))
-    (λ c. let linked = c .before .before .before .before .before in let got = linked .before .before .before .before in let arm = got .before in let ready = arm .before .before .before .before .pre .0 in
+    -- SCPI1
+    (λ c. let linked = c .before .before .before .before .before in let got = linked .before .before .before .before in let arm = got .before in
+    let ready = arm .before .before .before .before .pre .0 in
     one ready _ (arm .match .keys48) refl (got .unsigned9 .ensures) (linked .before .before .a24 .given .1) refl
     (cal ready _ (up 1) (walked _ _ _ _ (linked .record7 .ensures) _ (c .before .before .before .rec7 .given .1)) _ (c .call4 .ensures) (c .before .enter4 .ensures)))
-    (λ c. let linked = c .before .before .before .before .before in let got = linked .before .before .before .before in let arm = got .before in let ready = arm .before .before .before .before .pre .0 in
+    -- SCPI2
+    (λ c. let linked = c .before .before .before .before .before in let got = linked .before .before .before .before in let arm = got .before in
+    let ready = arm .before .before .before .before .pre .0 in
     one ready _ (arm .match .keys49) refl (got .unsigned10 .ensures) (linked .before .before .a25 .given .1) refl
     (cal ready _ (up 2) (walked _ _ _ _ (linked .record8 .ensures) _ (c .before .before .before .rec8 .given .1)) _ (c .call5 .ensures) (c .before .enter5 .ensures)))
+    -- TJP
     (λ c. let got = c .before .before .before .before .before .before in let arm = got .before in let ready = arm .before .before .before .before .pre .0 in
     one ready _ (arm .match .keys50) refl (got .signed3 .ensures) (c .before .before .before .before .a26 .given .1) refl
     (bra ready _ 1 _ (c .before .if8 .left) (c .branch3 .ensures)))
+    -- the short forms
     (λ c. let start = c .before .before .before .before .before .before in let ready = start .pre .0 in
     short ready _ (start .args .op) (sldc (start .args .op) (c .before .if9 .taken)) (con ready _ _ (c .push4 .ensures)))
     (λ c. let start = c .before .before .before .before .before .before .before in let ready = start .pre .0 in
@@ -463,5 +604,5 @@ act-spec = tie.close (tie.spec
     (λ c. let start = c .before .before .before .before .before .before .before .before .before .before .before in let ready = start .pre .0 in
     unknown ready _ (start .args .op) (gap-high (start .args .op) (c .before .if14 .left) (c .if15 .taken)))
     (λ c. let start = c .before .before .before .before .before .before .before .before .before .before .before .before in
-    unknown (start .pre .0) _ (start .args .op)
-    (no-key (start .args .op) (omega arith) (c .if16 .left) (c .before .before .before .before .before .before .before .before .match .rest))))
+    unknown (start .pre .0) _ (start .args .op) (no-key (start .args .op) (omega arith) (c .if16 .left)
+    (c .before .before .before .before .before .before .before .before .match .rest))))

@@ -6,18 +6,6 @@ use borrow.Author.Needs.{needs}
 use Rattle.plan.proofs.flow.branch.Statement.{statement}
 use Rattle.plan.proofs.flow.branch.Tie as tie
 
-word-of-requires : tie.Need-word-of-requires
-word-of-requires c κs = search needs
-
-add-jump : tie.Need-add-jump
-add-jump c = search needs
-
-jump-requires : tie.Need-jump-requires
-jump-requires c κs = search needs
-
-add-t12 : tie.Need-add-t12
-add-t12 c = search needs
-
 returns : tie.Need-returns
 unfolding outcomeOf branched
 returns c = simp (← c .jump .ensures, eq-eqb _ _ (c .before .before .if1 .taken), ← c .before .before .before .word-of .ensures)
@@ -27,4 +15,4 @@ unfolding outcomeOf branched
 returns-2 c = simp (ne-eqb _ _ (c .before .if1 .left), ← c .before .before .word-of .ensures)
 
 pub branch-spec : {M : Type 1} → statement M
-branch-spec = tie.close (tie.spec word-of-requires add-jump jump-requires add-t12 returns returns-2)
+branch-spec = tie.close (tie.spec (λ c κs. search needs) (λ c. search needs) (λ c κs. search needs) (λ c. search needs) returns returns-2)

@@ -16,24 +16,14 @@ returns-2 : tie.Need-returns-2
 unfolding entered
 returns-2 c = simp (← c .before .before .before .before .pre .1 .counts, lt-ltb _ _ (c .if2 .taken), le-ltb _ _ (c .before .before .if1 .left))
 
-add-word-in : tie.Need-add-word-in
-add-word-in c = search needs
-
-word-in-requires : tie.Need-word-in-requires
-word-in-requires c κs = search needs
-
-cast-e : tie.Need-cast-e
-cast-e c = search needs
-
 word-in-requires-2 : tie.Need-word-in-requires-2
 word-in-requires-2 c κs =
-    let l = c .before .before .before .before .before .before .before .pre .0 in
-    let t = c .before .before .before .before .before .before .before .pre .1 in
-    let f = l .routines (c .before .before .before .before .before .before .before .args .k) (omega arith) (omega (arith, t .counts)) in
-    omega (arith, f .entry-high, l .even, entry-told (c .before .before .before .before .before .before .before .args .seg .now) (c .before .before .before .before .before .before .before .args .facts) t (c .before .before .before .before .before .before .before .args .k) _ (c .word-in .ensures))
-
-cast-size : tie.Need-cast-size
-cast-size c = search needs
+    let start = c .before .before .before .before .before .before .before in
+    let a = start .args in
+    let l = start .pre .0 in
+    let t = start .pre .1 in
+    let f = l .routines (a .k) (omega arith) (omega (arith, t .counts)) in
+    omega (arith, f .entry-high, l .even, entry-told (a .seg .now) (a .facts) t (a .k) _ (c .word-in .ensures))
 
 add-if3 : tie.Need-add-if3
 add-if3 c =
@@ -68,12 +58,6 @@ sub-t11 c = omega (arith, c .before .before .before .before .before .before .bef
 sub-t9 : tie.Need-sub-t9
 sub-t9 c = omega (arith, c .before .before .before .before .before .before .before .before .before .before .pre .1 .floors)
 
-add-t12 : tie.Need-add-t12
-add-t12 c = search needs
-
-mul-t13 : tie.Need-mul-t13
-mul-t13 c = search needs
-
 returns-4 : tie.Need-returns-4
 returns-4 c =
     let read = c .before .before in
@@ -95,16 +79,16 @@ enter-spec =
     (tie.spec
     returns
     returns-2
-    add-word-in
-    word-in-requires
-    cast-e
+    (λ c. search needs)
+    (λ c κs. search needs)
+    (λ c. search needs)
     word-in-requires-2
-    cast-size
+    (λ c. search needs)
     add-if3
     add-if3-2
     returns-3
     sub-t11
     sub-t9
-    add-t12
-    mul-t13
+    (λ c. search needs)
+    (λ c. search needs)
     returns-4)

@@ -6,36 +6,6 @@ use borrow.Author.Needs.{needs}
 use Rattle.plan.proofs.flow.give_back.Statement.{statement}
 use Rattle.plan.proofs.flow.give_back.Tie as tie
 
-add-sp : tie.Need-add-sp
-add-sp c = search needs
-
-add-sp-2 : tie.Need-add-sp-2
-add-sp-2 c = search needs
-
-mark-at-requires : tie.Need-mark-at-requires
-mark-at-requires c κs = search needs
-
-in-order-requires : tie.Need-in-order-requires
-in-order-requires c κs = search needs
-
-array-read-t17 : tie.Need-array-read-t17
-array-read-t17 c = search needs
-
-cast-t18 : tie.Need-cast-t18
-cast-t18 c = search needs
-
-array-read-t21 : tie.Need-array-read-t21
-array-read-t21 c = search needs
-
-cast-t22 : tie.Need-cast-t22
-cast-t22 c = search needs
-
-array-read-t25 : tie.Need-array-read-t25
-array-read-t25 c = search needs
-
-cast-t26 : tie.Need-cast-t26
-cast-t26 c = search needs
-
 returns : tie.Need-returns
 unfolding outcomeOf returned
 returns c = simp (eq-eqb _ _ (c .if1 .taken))
@@ -52,16 +22,16 @@ pub give-back-spec : {M : Type 1} → statement M
 give-back-spec =
     tie.close
     (tie.spec
-    add-sp
-    add-sp-2
-    mark-at-requires
-    in-order-requires
-    array-read-t17
-    cast-t18
-    array-read-t21
-    cast-t22
-    array-read-t25
-    cast-t26
+    (λ c. search needs)
+    (λ c. search needs)
+    (λ c κs. search needs)
+    (λ c κs. search needs)
+    (λ c. search needs)
+    (λ c. search needs)
+    (λ c. search needs)
+    (λ c. search needs)
+    (λ c. search needs)
+    (λ c. search needs)
     returns
     returns-2
     returns-3)

@@ -6,9 +6,6 @@ use borrow.Author.Needs.{needs}
 use Rattle.plan.proofs.flow.jump.Statement.{statement}
 use Rattle.plan.proofs.flow.jump.Tie as tie
 
-landing-requires : tie.Need-landing-requires
-landing-requires c κs = search needs
-
 returns : tie.Need-returns
 unfolding outcomeOf jumped
 returns c = simp (eq-eqb _ _ (c .if1 .taken), ← c .before .landing .ensures)
@@ -18,4 +15,4 @@ unfolding outcomeOf jumped
 returns-2 c = simp (ne-eqb _ _ (c .if1 .left), ← c .before .landing .ensures)
 
 pub jump-spec : {M : Type 1} → statement M
-jump-spec = tie.close (tie.spec landing-requires returns returns-2)
+jump-spec = tie.close (tie.spec (λ c κs. search needs) returns returns-2)

@@ -6,18 +6,6 @@ use borrow.Author.Needs.{needs}
 use Rattle.plan.proofs.places.load.Statement.{statement}
 use Rattle.plan.proofs.places.load.Tie as tie
 
-add-at : tie.Need-add-at
-add-at c = search needs
-
-add-at-2 : tie.Need-add-at-2
-add-at-2 c = search needs
-
-word-of-requires : tie.Need-word-of-requires
-word-of-requires c κs = search needs
-
-push-requires : tie.Need-push-requires
-push-requires c κs = search needs
-
 returns : tie.Need-returns
 unfolding outcomeOf loaded
 returns c = simp (le-leb _ _ (c .if1 .taken))
@@ -27,4 +15,4 @@ unfolding outcomeOf loaded
 returns-2 c = simp (← c .push .ensures, ← c .before .word-of .ensures, lt-leb _ _ (c .before .before .if1 .left))
 
 pub load-spec : {M : Type 1} → statement M
-load-spec = tie.close (tie.spec add-at add-at-2 word-of-requires push-requires returns returns-2)
+load-spec = tie.close (tie.spec (λ c. search needs) (λ c. search needs) (λ c κs. search needs) (λ c κs. search needs) returns returns-2)

@@ -6,15 +6,6 @@ use borrow.Author.Needs.{needs}
 use Rattle.plan.proofs.places.pool_offset.Statement.{statement}
 use Rattle.plan.proofs.places.pool_offset.Tie as tie
 
-add-at : tie.Need-add-at
-add-at c = search needs
-
-cast-push : tie.Need-cast-push
-cast-push c = search needs
-
-push-requires : tie.Need-push-requires
-push-requires c κs = search needs
-
 returns : tie.Need-returns
 unfolding outcomeOf pooled
 returns c = simp (eq-eqb _ _ (c .if1 .taken))
@@ -28,4 +19,4 @@ unfolding outcomeOf pooled
 returns-3 c = simp (← c .push .ensures, lt-leb _ _ (c .before .if2 .left), ne-eqb _ _ (c .before .before .if1 .left))
 
 pub pool-offset-spec : {M : Type 1} → statement M
-pool-offset-spec = tie.close (tie.spec add-at cast-push push-requires returns returns-2 returns-3)
+pool-offset-spec = tie.close (tie.spec (λ c. search needs) (λ c. search needs) (λ c κs. search needs) returns returns-2 returns-3)

@@ -6,9 +6,6 @@ use borrow.Author.Needs.{needs}
 use Rattle.plan.proofs.stack.push.Statement.{statement}
 use Rattle.plan.proofs.stack.push.Tie as tie
 
-sub-sp : tie.Need-sub-sp
-sub-sp c = search needs
-
 returns : tie.Need-returns
 unfolding outcomeOf pushed
 returns c = simp (lt-ltb _ _ (c .if1 .taken))
@@ -18,4 +15,4 @@ unfolding outcomeOf pushed
 returns-2 c = simp (le-ltb _ _ (c .if1 .left))
 
 pub push-spec : {M : Type 1} → statement M
-push-spec = tie.close (tie.spec sub-sp returns returns-2)
+push-spec = tie.close (tie.spec (λ c. search needs) returns returns-2)
