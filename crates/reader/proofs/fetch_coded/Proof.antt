@@ -17,30 +17,22 @@ returns-2 c = simp (ne-eqb _ _ (c .before .before .if1 .left), eq-eqb _ _ (c .be
 returns-3 : tie.Need-returns-3
 unfolding formAt fetched
 returns-3 c =
-    simp (ne-eqb _ _ (c .before .before .before .if1 .left), ne-eqb _ _ (c .before .before .if2 .left), eq-eqb _ _ (c .before .if3 .taken))
-    (c .unsigned2 .ensures)
+    let b = c .before .before in
+    simp (ne-eqb _ _ (b .before .if1 .left), ne-eqb _ _ (b .if2 .left), eq-eqb _ _ (c .before .if3 .taken)) (c .unsigned2 .ensures)
 
 returns-4 : tie.Need-returns-4
 unfolding formAt
 returns-4 c =
-    simp (
-      ne-eqb _ _ (c .before .before .before .before .if1 .left),
-      ne-eqb _ _ (c .before .before .before .if2 .left),
-      ne-eqb _ _ (c .before .before .if3 .left),
-      eq-eqb _ _ (c .before .if4 .taken),
-    )
-    (c .big .ensures)
+    let d = c .before .before in
+    let b = d .before in
+    simp (ne-eqb _ _ (b .before .if1 .left), ne-eqb _ _ (b .if2 .left), ne-eqb _ _ (d .if3 .left), eq-eqb _ _ (c .before .if4 .taken)) (c .big .ensures)
 
 returns-5 : tie.Need-returns-5
 unfolding formAt
 returns-5 c =
-    simp (
-      ne-eqb _ _ (c .before .before .before .before .if1 .left),
-      ne-eqb _ _ (c .before .before .before .if2 .left),
-      ne-eqb _ _ (c .before .before .if3 .left),
-      ne-eqb _ _ (c .before .if4 .left),
-    )
-    (c .wide .ensures)
+    let d = c .before .before in
+    let b = d .before in
+    simp (ne-eqb _ _ (b .before .if1 .left), ne-eqb _ _ (b .if2 .left), ne-eqb _ _ (d .if3 .left), ne-eqb _ _ (c .before .if4 .left)) (c .wide .ensures)
 
 pub fetch-coded-spec : {M : Type 1} → statement M
 fetch-coded-spec =
