@@ -6,7 +6,7 @@ use mathlib.Core.Path.{_≡_, refl, ap, _∙_}
 use mathlib.Core.List.{List, _++_, append-nil}
 use lib.ListN.{length, take, drop, length-append, length-drop, drop-of-length-le}
 use lib.Seq.{take-at, drop-at}
-use Rattle.basis.specs.Checks.{Ruling, passed, refused, ruling, followedBy}
+use Rattle.basis.specs.Checks.{Ruling, passed, refused}
 use Rattle.turning.specs.Turn.{turned, turnRuling, turnedInto, outputOf}
 use Rattle.turning.specs.Twin.{Outputs, TurnsBack}
 use Rattle.turning.proofs.Positions.{turn-good, turn-accepts}

@@ -16,7 +16,7 @@ use Rattle.basis.specs.Bools.{inside}
 use Rattle.basis.proofs.Bools.{inside-true, and-both, or-cases}
 use Rattle.segment.specs.Head.{words, dict, count, entry, pool}
 use Rattle.segment.specs.Judge.{checks, judged}
-use Rattle.basis.specs.Checks.{Ruling, passed, refused, ruling, followedBy}
+use Rattle.basis.specs.Checks.{passed, refused, ruling, followedBy}
 use Rattle.basis.proofs.Checks.{ruling-append, needed, followed, followed-by}
 use Rattle.segment.proofs.Laws.{all-good, all-routines}
 use Rattle.turning.specs.Turn.{frame, framed, position, swapAt, turned, turnChecks, turnRuling}

@@ -8,9 +8,6 @@ use Rattle.segment.proofs.Laws.{judged-is}
 use Rattle.checks.proofs.judge.Statement.{statement}
 use Rattle.checks.proofs.judge.Tie as tie
 
-judge-routines-requires : tie.Need-judge-routines-requires
-judge-routines-requires c κs = sym (c .before .before .judge-head .ensures) ∙ ap rulingOf (c .enum-told .given .1)
-
 returns : tie.Need-returns
 unfolding followedBy
 returns c =
@@ -28,11 +25,6 @@ returns-2 c =
 
 pub judge-spec : {M : Type 1} → statement M
 judge-spec =
-    tie.close
-    (tie.spec
-    (λ c κs. search needs)
-    (λ c. search needs)
-    judge-routines-requires
-    (λ c. search needs)
-    returns
-    returns-2)
+    tie.close (tie.spec (λ c κs. search needs) (λ c. search needs)
+    (λ c κs. sym (c .before .before .judge-head .ensures) ∙ ap rulingOf (c .enum-told .given .1))
+    (λ c. search needs) returns returns-2)

@@ -47,24 +47,8 @@ loop-again c = (
   c .before .before .before .loop .inv .1 ∙ judge-step _ _ _ (c .before .before .loop-test .taken) (sym (c .before .routine-passes .ensures) ∙ not-false _ (c .if1 .left)),
 )
 
-returns-2 : tie.Need-returns-2 Inv-loop μ-loop
-returns-2 c = sym (c .before .loop .inv .1 ∙ judge-done _ _ _ (c .loop-test .left))
-
 pub judge-routines-spec : {M : Type 1} → statement M
 judge-routines-spec =
-    tie.close
-    (tie.spec
-    Inv-loop
-    μ-loop
-    (λ c κs. search needs)
-    (λ c. search needs)
-    (λ c. search needs)
-    loop-holds
-    (λ c. search needs)
-    routine-passes-requires
-    (λ c. search needs)
-    (λ c κs. search needs)
-    returns
-    (λ c. search needs)
-    loop-again
-    returns-2)
+    tie.close (tie.spec Inv-loop μ-loop (λ c κs. search needs) (λ c. search needs) (λ c. search needs) loop-holds (λ c. search needs) routine-passes-requires
+    (λ c. search needs) (λ c κs. search needs) returns (λ c. search needs) loop-again
+    (λ c. sym (c .before .loop .inv .1 ∙ judge-done _ _ _ (c .loop-test .left))))

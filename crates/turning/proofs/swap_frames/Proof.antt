@@ -17,9 +17,6 @@ Inv-loop seg out₀ n k₀ out k = (k ≤ n) × (length out ≡ length out₀) �
 abbrev μ-loop : tie.MeasureT-loop
 μ-loop seg out₀ n k₀ out k = n - k
 
-loop-holds : tie.Need-loop-holds Inv-loop μ-loop
-loop-holds c = (omega arith, refl, frames-start (now (c .before .before .args .seg)) (now (c .before .before .args .out)))
-
 sub-swap-words : tie.Need-sub-swap-words Inv-loop μ-loop
 sub-swap-words c = entry-fits (now (c .before .before .before .before .before .before .before .args .seg)) (c .before .before .before .before .before .before .before .pre .0) (c .before .before .before .before .before .before .before .args .n) (c .before .before .before .before .loop .k) (c .before .before .routine-of .result .entry) (c .before .before .before .before .before .before .before .pre .2) (c .before .before .before .loop-test .taken) (ap (λ (r : Routine). r .entry) (c .before .before .routine-of .ensures)) .0
 
@@ -34,9 +31,6 @@ loop-again c =
     let t = c .before .before .swap-words in
     (omega arith, t .kept .1 .0 ∙ c .before .before .before .before .before .before .before .loop .inv .1, t .ensures ∙ frames-more (now (c .before .before .before .before .before .before .before .before .before .before .args .seg)) (now (c .before .before .before .before .before .before .before .before .before .before .args .out)) (c .before .before .before .before .before .before .before .loop .out) (c .before .before .before .before .before .before .before .loop .k) (c .before .before .before .before .before .routine-of .result .entry) (c .before .before .before .before .before .before .before .loop .inv .2) (ap (λ (r : Routine). r .entry) (c .before .before .before .before .before .routine-of .ensures)) (f .0))
 
-same-length : tie.Need-same-length Inv-loop μ-loop
-same-length c = c .before .loop .inv .1
-
 returns : tie.Need-returns Inv-loop μ-loop
 returns c =
     let e : c .before .loop .k ≡ c .before .before .before .before .args .n = omega arith in
@@ -44,18 +38,7 @@ returns c =
 
 pub swap-frames-spec : {M : Type 1} → statement M
 swap-frames-spec =
-    tie.close
-    (tie.spec
-    Inv-loop
-    μ-loop
-    loop-holds
-    (λ c. search needs)
-    (λ c κs. search needs)
-    (λ c. search needs)
-    sub-swap-words
-    (λ c. search needs)
-    swap-words-requires
-    (λ c. search needs)
-    loop-again
-    same-length
-    returns)
+    tie.close (tie.spec Inv-loop μ-loop
+    (λ c. (omega arith, refl, frames-start (now (c .before .before .args .seg)) (now (c .before .before .args .out))))
+    (λ c. search needs) (λ c κs. search needs) (λ c. search needs) sub-swap-words (λ c. search needs) swap-words-requires (λ c. search needs) loop-again
+    (λ c. c .before .loop .inv .1) returns)

@@ -7,9 +7,6 @@ use Rattle.turning.proofs.Swaps.{swap-word}
 use Rattle.turning.proofs.swap_word.Statement.{statement}
 use Rattle.turning.proofs.swap_word.Tie as tie
 
-slice-write-out-2 : tie.Need-slice-write-out-2
-slice-write-out-2 c = simp length-set (omega arith)
-
 returns : tie.Need-returns
 returns c =
     let a = c .before .before .args in
@@ -17,14 +14,5 @@ returns c =
 
 pub swap-word-spec : {M : Type 1} → statement M
 swap-word-spec =
-    tie.close
-    (tie.spec
-    (λ c. search needs)
-    (λ c. search needs)
-    (λ c. search needs)
-    (λ c. search needs)
-    (λ c. search needs)
-    (λ c. search needs)
-    slice-write-out-2
-    (λ c. search needs)
-    returns)
+    tie.close (tie.spec (λ c. search needs) (λ c. search needs) (λ c. search needs) (λ c. search needs) (λ c. search needs) (λ c. search needs)
+    (λ c. simp length-set (omega arith)) (λ c. search needs) returns)

@@ -22,18 +22,12 @@ loop-holds c =
     let a = c .before .before .args in
     (omega arith, omega arith, refl, range-start (now (a .seg)) (now (a .out)) (a .first))
 
-swap-word-requires : tie.Need-swap-word-requires Inv-loop μ-loop
-swap-word-requires c κs = (omega arith, omega arith)
-
 loop-again : tie.Need-loop-again Inv-loop μ-loop
 loop-again c =
     let a = c .before .before .before .before .before .before .before .before .args in
     let l = c .before .before .before .before .before .loop in
     let t = c .before .before .swap-word in
     (omega arith, omega arith, t .kept .1 .0 ∙ l .inv .2, t .ensures ∙ range-more (now (a .seg)) (now (a .out)) (a .first) (l .w) (omega arith) (l .out) (l .inv .3))
-
-same-length : tie.Need-same-length Inv-loop μ-loop
-same-length c = c .before .loop .inv .2
 
 returns : tie.Need-returns Inv-loop μ-loop
 returns c =
@@ -43,14 +37,5 @@ returns c =
 
 pub swap-words-spec : {M : Type 1} → statement M
 swap-words-spec =
-    tie.close
-    (tie.spec
-    Inv-loop
-    μ-loop
-    loop-holds
-    swap-word-requires
-    (λ c. search needs)
-    (λ c. search needs)
-    loop-again
-    same-length
-    returns)
+    tie.close (tie.spec Inv-loop μ-loop loop-holds (λ c κs. (omega arith, omega arith)) (λ c. search needs) (λ c. search needs) loop-again
+    (λ c. c .before .loop .inv .2) returns)

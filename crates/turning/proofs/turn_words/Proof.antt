@@ -35,18 +35,5 @@ returns c =
 
 pub turn-words-spec : {M : Type 1} → statement M
 turn-words-spec =
-    tie.close
-    (tie.spec
-    (λ c κs. search needs)
-    (λ c. search needs)
-    (λ c. search needs)
-    (λ c κs. search needs)
-    swap-words-requires
-    (λ c. search needs)
-    swap-words-requires-2
-    (λ c. search needs)
-    (λ c. search needs)
-    swap-words-requires-3
-    swap-frames-requires
-    (λ c. search needs)
-    returns)
+    tie.close (tie.spec (λ c κs. search needs) (λ c. search needs) (λ c. search needs) (λ c κs. search needs) swap-words-requires (λ c. search needs)
+    swap-words-requires-2 (λ c. search needs) (λ c. search needs) swap-words-requires-3 swap-frames-requires (λ c. search needs) returns)

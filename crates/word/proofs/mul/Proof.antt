@@ -14,18 +14,6 @@ Inv-loop x y sum₀ factor₀ left₀ sum factor left = (sum < 65536) × ((sum +
 abbrev μ-loop : tie.MeasureT-loop
 μ-loop x y sum₀ factor₀ left₀ sum factor left = left
 
-loop-holds : tie.Need-loop-holds Inv-loop μ-loop
-loop-holds c = omega arith
-
-wrapping-add-u16-requires : tie.Need-wrapping-add-u16-requires Inv-loop μ-loop
-wrapping-add-u16-requires c κs = search needs
-
-wrapping-add-u16-requires-2 : tie.Need-wrapping-add-u16-requires-2 Inv-loop μ-loop
-wrapping-add-u16-requires-2 c κs = search needs
-
-loop-less : tie.Need-loop-less Inv-loop μ-loop
-loop-less c = omega arith
-
 loop-again : tie.Need-loop-again Inv-loop μ-loop
 loop-again c =
     let l = c .before .before .before .loop in
@@ -41,14 +29,4 @@ returns c =
     omega (arith, l .inv .1, mul-is (a .x) (a .y) (search needs) (search needs), ap (λ (t : ℕ). l .factor * t) (c .loop-test .left))
 
 pub mul-spec : {M : Type 1} → statement M
-mul-spec =
-    tie.close
-    (tie.spec
-    Inv-loop
-    μ-loop
-    loop-holds
-    wrapping-add-u16-requires
-    wrapping-add-u16-requires-2
-    loop-less
-    loop-again
-    returns)
+mul-spec = tie.close (tie.spec Inv-loop μ-loop (λ c. omega arith) (λ c κs. search needs) (λ c κs. search needs) (λ c. omega arith) loop-again returns)

@@ -8,12 +8,6 @@ use Rattle.word.proofs.quot.Tie as tie
 returns : tie.Need-returns
 returns c = let a = c .before .args in sym (quot-none (a .x) (a .y) (search needs) (c .if1 .taken))
 
-mag-requires : tie.Need-mag-requires
-mag-requires c κs = search needs
-
-mag-requires-2 : tie.Need-mag-requires-2
-mag-requires-2 c κs = search needs
-
 div-q : tie.Need-div-q
 div-q c =
     let a = c .before .before .before .args in
@@ -27,9 +21,6 @@ returns-2 c =
     let m = c .before .before .before .mag in
     let k = c .before .before .mag2 in
     quot-plus-plus (a .x) (a .y) (m .result) (k .result) (search needs) (search needs) (m .ensures) (k .ensures) (c .before .if2 .taken) (c .if3 .taken)
-
-neg-requires : tie.Need-neg-requires
-neg-requires c κs = search needs
 
 returns-3 : tie.Need-returns-3
 returns-3 c =
@@ -45,9 +36,6 @@ returns-4 c =
     let k = c .before .before .mag2 in
     quot-minus-minus (a .x) (a .y) (m .result) (k .result) (search needs) (search needs) (m .ensures) (k .ensures) (c .before .if2 .left) (c .if4 .taken)
 
-neg-requires-2 : tie.Need-neg-requires-2
-neg-requires-2 c κs = search needs
-
 returns-5 : tie.Need-returns-5
 returns-5 c =
     let a = c .before .before .before .before .before .before .args in
@@ -57,15 +45,5 @@ returns-5 c =
 
 pub quot-spec : {M : Type 1} → statement M
 quot-spec =
-    tie.close
-    (tie.spec
-    returns
-    mag-requires
-    mag-requires-2
-    div-q
-    returns-2
-    neg-requires
-    returns-3
-    returns-4
-    neg-requires-2
+    tie.close (tie.spec returns (λ c κs. search needs) (λ c κs. search needs) div-q returns-2 (λ c κs. search needs) returns-3 returns-4 (λ c κs. search needs)
     returns-5)

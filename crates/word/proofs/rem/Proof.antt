@@ -8,21 +8,12 @@ use Rattle.word.proofs.rem.Tie as tie
 returns : tie.Need-returns
 returns c = let a = c .before .args in sym (rem-none (a .x) (a .y) (search needs) (c .if1 .taken))
 
-mag-requires : tie.Need-mag-requires
-mag-requires c κs = search needs
-
-mag-requires-2 : tie.Need-mag-requires-2
-mag-requires-2 c κs = search needs
-
 rem-r : tie.Need-rem-r
 rem-r c =
     let a = c .before .before .before .args in
     let m = c .before .mag in
     let k = c .mag2 in
     divisor-some (a .x) (a .y) (m .result) (k .result) (search needs) (search needs) (m .ensures) (k .ensures) (c .before .before .if1 .left)
-
-neg-requires : tie.Need-neg-requires
-neg-requires c κs = search needs
 
 returns-2 : tie.Need-returns-2
 returns-2 c =
@@ -39,5 +30,4 @@ returns-3 c =
     rem-plus (a .x) (a .y) (m .result) (k .result) (search needs) (search needs) (m .ensures) (k .ensures) (c .if2 .left)
 
 pub rem-spec : {M : Type 1} → statement M
-rem-spec =
-    tie.close (tie.spec returns mag-requires mag-requires-2 rem-r neg-requires returns-2 returns-3)
+rem-spec = tie.close (tie.spec returns (λ c κs. search needs) (λ c κs. search needs) rem-r (λ c κs. search needs) returns-2 returns-3)

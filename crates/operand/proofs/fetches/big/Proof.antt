@@ -23,15 +23,5 @@ returns-4 c = simp (le-ltb _ _ (c .if1 .left))
 
 pub big-spec : {M : Type 1} → statement M
 big-spec =
-    tie.close
-    (tie.spec
-    (λ c. search needs)
-    (λ c. search needs)
-    (λ c. search needs)
-    returns
-    (λ c. search needs)
-    (λ c κs. search needs)
-    (λ c. search needs)
-    returns-2
-    returns-3
-    returns-4)
+    tie.close (tie.spec (λ c. search needs) (λ c. search needs) (λ c. search needs) returns (λ c. search needs) (λ c κs. search needs) (λ c. search needs) returns-2
+    returns-3 returns-4)

@@ -14,13 +14,5 @@ returns-2 c = simp (c .before .if1 .left, c .pair2 .ensures)
 
 pub word-in-spec : {M : Type 1} → statement M
 word-in-spec =
-    tie.close
-    (tie.spec
-    (λ c. search needs)
-    (λ c. search needs)
-    (λ c. search needs)
-    (λ c. search needs)
-    (λ c κs. search needs)
-    returns
-    (λ c κs. search needs)
+    tie.close (tie.spec (λ c. search needs) (λ c. search needs) (λ c. search needs) (λ c. search needs) (λ c κs. search needs) returns (λ c κs. search needs)
     returns-2)
