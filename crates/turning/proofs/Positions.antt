@@ -117,37 +117,15 @@ pub frames-start : (s out : List ℕ) → out ≡ swapAt (framed s 0) s out
 unfolding framed
 frames-start s out = sym (swap-none (framed s 0) s out (λ (w : ℕ). refl))
 
-pub frames-more : (s out t : List ℕ) (k e : ℕ) → t ≡ swapAt (framed s k) s out → e ≡ entry s (k + 1) → 1 ≤ e
+pub frames-more : (s out : List ℕ) {t : List ℕ} (k : ℕ) {e : ℕ} → t ≡ swapAt (framed s k) s out → e ≡ entry s (k + 1) → 1 ≤ e
     → swapAt (inside (e - 1) (e + 1)) s t ≡ swapAt (framed s (k + 1)) s out
 unfolding framed
-frames-more s out t k e h q l =
+frames-more s out {t} k {e} h q l =
     ap (swapAt (inside (e - 1) (e + 1)) s) h
     ∙ swap-join (framed s k) (inside (e - 1) (e + 1)) s out
     ∙ swap-same (λ w. framed s k w || inside (e - 1) (e + 1) w) (framed s (suc k)) s out
     (λ (w : ℕ). ap (λ (b : Bool). framed s k w || b) (frame-inside e w l ∙ ap (λ (i : ℕ). frame i w) (q ∙ ap (entry s) (add-one k))))
     ∙ ap (λ (n : ℕ). swapAt (framed s n) s out) (sym (add-one k))
-
--- the loop that asks of one word, from the last routine down
-framed-step : (s : List ℕ) (w k : ℕ) → 0 < k → framed s k w ≡ (framed s (k - 1) w || frame (entry s k) w)
-unfolding framed
-framed-step s w zero l =
-    let f : ⊥ = omega arith in
-    absurd f
-framed-step s w (suc k) l =
-    let e : suc k - 1 ≡ k = omega arith in
-    rw e refl
-
-pub framed-hit : (s : List ℕ) (w k : ℕ) → 0 < k → frame (entry s k) w ≡ true → framed s k w ≡ true
-framed-hit s w k l h = framed-step s w k l ∙ or-second (framed s (k - 1) w) (frame (entry s k) w) h
-
-pub framed-miss : (s : List ℕ) (w k : ℕ) → 0 < k → frame (entry s k) w ≡ false → framed s k w ≡ framed s (k - 1) w
-framed-miss s w k l h = framed-step s w k l ∙ rw h (or-false (framed s (k - 1) w))
-
-pub framed-none : (s : List ℕ) (w k : ℕ) → k ≤ 0 → framed s k w ≡ false
-unfolding framed
-framed-none s w k l =
-    let e : k ≡ 0 = omega arith in
-    rw e refl
 
 -- the words of routine k are among those of the first n; and what holds of each routine's words holds of all of them
 pub framed-has : (s : List ℕ) (w n k : ℕ) → 1 ≤ k → k ≤ n → frame (entry s k) w ≡ true → framed s n w ≡ true
@@ -181,8 +159,8 @@ module _ (s : List ℕ) (ok : judged s ≡ passed) where
       omega arith
 
   -- the same of a result e, for routine k + 1 of n
-  pub entry-fits : (n k e : ℕ) → n ≡ count s → k < n → e ≡ entry s (k + 1) → (1 ≤ e) × (2 * (e + 1) ≤ length s)
-  entry-fits n k e hn l he =
+  pub entry-fits : {n k e : ℕ} → n ≡ count s → k < n → e ≡ entry s (k + 1) → (1 ≤ e) × (2 * (e + 1) ≤ length s)
+  entry-fits {n} {k} {e} hn l he =
       let i = entry-in (k + 1) (omega arith) (omega arith) in
       omega arith
 
@@ -211,7 +189,7 @@ module _ (s : List ℕ) (ok : judged s ≡ passed) where
       absurd f
   past-none i l false h = h
 
-  pub all-written : (d o₀ o₁ o₂ o₃ o₄ : List ℕ) (at n : ℕ) → at ≡ dict s → n ≡ count s
+  pub all-written : (d : List ℕ) {o₀ o₁ o₂ o₃ o₄ : List ℕ} {at n : ℕ} → at ≡ dict s → n ≡ count s
       → o₀ ≡ s ++ d
       → o₁ ≡ swapAt (inside 0 2) s o₀
       → o₂ ≡ swapAt (inside 6 11) s o₁
@@ -219,7 +197,7 @@ module _ (s : List ℕ) (ok : judged s ≡ passed) where
       → o₄ ≡ swapAt (framed s (count s)) s o₃
       → o₄ ≡ turned s ++ d
   unfolding turned position
-  all-written d o₀ o₁ o₂ o₃ o₄ at n hd hn h₀ h₁ h₂ h₃ h₄ =
+  all-written d hd hn h₀ h₁ h₂ h₃ h₄ =
       rw (h₄, h₃, h₂, h₁, h₀, hd, hn)
       (ap (λ (l : List ℕ). swapAt (framed s (count s)) s (swapAt (inside (dict s) (dict s + count s + 1)) s l)) (swap-join (inside 0 2) (inside 6 11) s (s ++ d))
       ∙ ap (λ (l : List ℕ). swapAt (framed s (count s)) s l) (swap-join (λ w. inside 0 2 w || inside 6 11 w) (inside (dict s) (dict s + count s + 1)) s (s ++ d))
