@@ -16,5 +16,5 @@ returns-3 c = let a = c .before .before .before .args in laws.part-full (a .stor
 
 pub code-of-spec : {M : Type 1} → statement M
 code-of-spec =
-    tie.close (tie.spec (λ c. search needs) returns (λ c. search needs) (λ c. search needs) (λ c. search needs) (λ c. search needs) returns-2 (λ c. search needs)
-    (λ c. search needs) (λ c. search needs) (λ c. search needs) returns-3)
+    tie.close (tie.spec (search needs) returns (search needs) (search needs) (search needs) (search needs) returns-2 (search needs) (search needs) (search needs)
+    (search needs) returns-3)

@@ -8,6 +8,6 @@ use Rattle.checks.proofs.accepts.Tie as tie
 
 pub accepts-spec : {M : Type 1} → statement M
 accepts-spec =
-    tie.close (tie.spec (λ c κs. search needs) (λ c. search needs) (λ c. search needs)
+    tie.close (tie.spec (search needs) (search needs) (search needs)
     (λ c. sym (ap isPassed (sym (c .before .before .judge .ensures) ∙ ap rulingOf (c .enum-told .given .1))))
     (λ c. sym (ap isPassed (sym (c .before .before .judge .ensures) ∙ ap rulingOf (c .enum-told2 .given .1)))))

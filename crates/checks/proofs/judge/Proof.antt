@@ -25,6 +25,6 @@ returns-2 c =
 
 pub judge-spec : {M : Type 1} → statement M
 judge-spec =
-    tie.close (tie.spec (λ c κs. search needs) (λ c. search needs)
+    tie.close (tie.spec (search needs) (search needs)
     (λ c κs. sym (c .before .before .judge-head .ensures) ∙ ap rulingOf (c .enum-told .given .1))
-    (λ c. search needs) returns returns-2)
+    (search needs) returns returns-2)

@@ -4,9 +4,5 @@ use Rattle.basis.specs.Integer.{geuOf, leuOf}
 use Rattle.compare.proofs.geu.Statement.{statement}
 use Rattle.compare.proofs.geu.Tie as tie
 
-returns : tie.Need-returns
-unfolding geuOf leuOf
-returns c = c .leu .ensures
-
 pub geu-spec : {M : Type 1} → statement M
-geu-spec = tie.close (tie.spec (λ c κs. search needs) returns)
+geu-spec = tie.close (tie.spec (search needs) (λ c. unfold geuOf leuOf in c .leu .ensures))

@@ -1,7 +1,6 @@
 -- `reader::next` meets its contract: a walk of its MIR, by hand. The reader is taken apart, and `fetch_coded` is called on its slice and its place.
 -- All that the proof knows of `fetch_coded` is that it meets its contract. Assumes nothing.
 use mathlib.Core.Path.{refl}
-use mathlib.Core.List.{[], _∷_}
 use base.Logic.{emp}
 use contract.Monad.{factI}
 use contract.Running.{givenOf}

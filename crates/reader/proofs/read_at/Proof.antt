@@ -2,7 +2,7 @@
 -- All that the proof knows of `new`, `moved` and `next` is that they meet their contracts. Assumes nothing.
 use mathlib.Core.Path.{refl, ap, _∙_}
 use Prim.Native.Nat.{ℕ}
-use mathlib.Core.List.{List, [], _∷_}
+use mathlib.Core.List.{List}
 use base.Logic.{emp}
 use contract.Monad.{factI}
 use contract.Running.{givenOf}

@@ -29,5 +29,5 @@ returns c =
 
 pub copy-spec : {M : Type 1} → statement M
 copy-spec =
-    tie.close (tie.spec Inv-loop μ-loop (λ c. (omega arith, refl, refl)) (λ c. search needs) (λ c. omega arith) (λ c. search needs) (λ c. search needs) loop-again
+    tie.close (tie.spec Inv-loop μ-loop (λ c. (omega arith, refl, refl)) (search needs) (λ c. omega arith) (search needs) (search needs) loop-again
     (λ c. c .before .loop .inv .1) returns)

@@ -44,5 +44,4 @@ returns-4 c =
 
 pub judge-turn-spec : {M : Type 1} → statement M
 judge-turn-spec =
-    tie.close (tie.spec (λ c κs. search needs) (λ c. search needs) returns (λ c. search needs) (λ c κs. search needs) (λ c κs. search needs) returns-2
-    (λ c κs. search needs) returns-3 returns-4)
+    tie.close (tie.spec (search needs) (search needs) returns (search needs) (search needs) (search needs) returns-2 (search needs) returns-3 returns-4)

@@ -52,5 +52,4 @@ pub swap-frames-spec : {M : Type 1} → statement M
 swap-frames-spec =
     tie.close (tie.spec Inv-loop μ-loop
     (λ c. (omega arith, refl, frames-start (now (c .before .before .args .seg)) (now (c .before .before .args .out))))
-    (λ c. search needs) (λ c κs. search needs) (λ c. search needs) sub-swap-words (λ c. search needs) swap-words-requires (λ c. search needs) loop-again
-    (λ c. c .before .loop .inv .1) returns)
+    (search needs) (search needs) (search needs) sub-swap-words (search needs) swap-words-requires (search needs) loop-again (λ c. c .before .loop .inv .1) returns)

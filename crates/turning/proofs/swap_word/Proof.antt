@@ -14,5 +14,5 @@ returns c =
 
 pub swap-word-spec : {M : Type 1} → statement M
 swap-word-spec =
-    tie.close (tie.spec (λ c. search needs) (λ c. search needs) (λ c. search needs) (λ c. search needs) (λ c. search needs) (λ c. search needs)
-    (λ c. simp length-set (omega arith)) (λ c. search needs) returns)
+    tie.close (tie.spec (search needs) (search needs) (search needs) (search needs) (search needs) (search needs) (λ c. simp length-set (omega arith)) (search needs)
+    returns)

@@ -24,8 +24,9 @@ loop-holds c =
 
 loop-again : tie.Need-loop-again Inv-loop μ-loop
 loop-again c =
-    let a = c .before .before .before .before .before .before .before .before .args in
-    let l = c .before .before .before .before .before .loop in
+    let turn = c .before .before .before .before .before in
+    let a = turn .before .before .before .args in
+    let l = turn .loop in
     let t = c .before .before .swap-word in
     (omega arith, omega arith, t .kept .1 .0 ∙ l .inv .2, t .ensures ∙ range-more (now (a .seg)) (now (a .out)) (a .first) (l .w) (omega arith) (l .out) (l .inv .3))
 
@@ -37,5 +38,5 @@ returns c =
 
 pub swap-words-spec : {M : Type 1} → statement M
 swap-words-spec =
-    tie.close (tie.spec Inv-loop μ-loop loop-holds (λ c κs. (omega arith, omega arith)) (λ c. search needs) (λ c. search needs) loop-again
-    (λ c. c .before .loop .inv .2) returns)
+    tie.close (tie.spec Inv-loop μ-loop loop-holds (λ c κs. (omega arith, omega arith)) (search needs) (search needs) loop-again (λ c. c .before .loop .inv .2)
+    returns)

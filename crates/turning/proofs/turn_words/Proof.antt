@@ -52,5 +52,5 @@ returns c =
 
 pub turn-words-spec : {M : Type 1} → statement M
 turn-words-spec =
-    tie.close (tie.spec (λ c κs. search needs) (λ c. search needs) (λ c. search needs) (λ c κs. search needs) swap-words-requires (λ c. search needs)
-    swap-words-requires-2 (λ c. search needs) (λ c. search needs) swap-words-requires-3 swap-frames-requires (λ c. search needs) returns)
+    tie.close (tie.spec (search needs) (search needs) (search needs) (search needs) swap-words-requires (search needs) swap-words-requires-2 (search needs)
+    (search needs) swap-words-requires-3 swap-frames-requires (search needs) returns)

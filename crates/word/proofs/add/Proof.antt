@@ -9,4 +9,4 @@ returns : tie.Need-returns
 returns c = let a = c .before .args in c .wrapping-add-u16 .ensures ∙ sym (add-is (a .x) (a .y) (search needs) (search needs))
 
 pub add-spec : {M : Type 1} → statement M
-add-spec = tie.close (tie.spec (λ c κs. search needs) returns)
+add-spec = tie.close (tie.spec (search needs) returns)

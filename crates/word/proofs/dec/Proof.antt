@@ -12,4 +12,4 @@ returns c =
     ∙ sym (dec-is (a .x) (search needs))
 
 pub dec-spec : {M : Type 1} → statement M
-dec-spec = tie.close (tie.spec (λ c κs. search needs) returns)
+dec-spec = tie.close (tie.spec (search needs) returns)

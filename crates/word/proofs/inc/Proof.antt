@@ -11,4 +11,4 @@ returns c =
     c .wrapping-add-u16 .ensures ∙ sym (add-is (a .x) 1 (search needs) (search needs)) ∙ sym (inc-is (a .x) (search needs))
 
 pub inc-spec : {M : Type 1} → statement M
-inc-spec = tie.close (tie.spec (λ c κs. search needs) returns)
+inc-spec = tie.close (tie.spec (search needs) returns)

@@ -9,5 +9,5 @@ pub mag-spec : {M : Type 1} → statement M
 mag-spec =
     tie.close (tie.spec
     (λ c. sym (mag-low (c .before .args .x) (search needs) (search needs)))
-    (λ c κs. search needs)
+    (search needs)
     (λ c. c .neg .ensures ∙ sym (mag-high (c .before .before .args .x) (search needs) (search needs))))

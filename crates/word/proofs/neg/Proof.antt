@@ -12,4 +12,4 @@ returns c =
     ∙ sym (neg-sub (a .x) (search needs))
 
 pub neg-spec : {M : Type 1} → statement M
-neg-spec = tie.close (tie.spec (λ c κs. search needs) returns)
+neg-spec = tie.close (tie.spec (search needs) returns)

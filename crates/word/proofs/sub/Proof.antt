@@ -10,4 +10,4 @@ returns c =
     sub-wraps (a .x) (a .y) (search needs) (search needs) (c .wrapping-sub-u16 .result) (search needs) (c .wrapping-sub-u16 .ensures)
 
 pub sub-spec : {M : Type 1} → statement M
-sub-spec = tie.close (tie.spec (λ c κs. search needs) returns)
+sub-spec = tie.close (tie.spec (search needs) returns)

@@ -20,6 +20,4 @@ returns-3 c =
     simp (c .before .if2 .left, c .pair2 .ensures, c .before .before .byte-at .ensures, e)
 
 pub word-at-spec : {M : Type 1} → statement M
-word-at-spec =
-    tie.close (tie.spec (λ c. search needs) (λ c. search needs) (λ c κs. search needs) (λ c. search needs) (λ c κs. search needs) (λ c κs. search needs) returns-2
-    (λ c κs. search needs) returns-3)
+word-at-spec = tie.close (tie.spec (search needs) (search needs) (search needs) (search needs) (search needs) (search needs) returns-2 (search needs) returns-3)

@@ -11,6 +11,6 @@ returns-3 c = number-is _ _ (c .before .before .before .if1 .left) (sym (not-fal
 
 pub number-of-spec : {M : Type 1} → statement M
 number-of-spec =
-    tie.close (tie.spec (λ c. number-none _ (c .if1 .taken)) (λ c κs. search needs)
+    tie.close (tie.spec (λ c. number-none _ (c .if1 .taken)) (search needs)
     (λ c. number-not _ (sym (not-true _ (c .if2 .taken)) ∙ c .before .digits .ensures))
-    (λ c κs. search needs) returns-3)
+    (search needs) returns-3)

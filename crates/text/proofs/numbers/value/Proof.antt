@@ -28,8 +28,8 @@ loop-again c =
 
 pub value-spec : {M : Type 1} → statement M
 value-spec =
-    tie.close (tie.spec Inv-loop μ-loop (λ c. search needs) (λ c. search needs) (λ c κs. search needs) (λ c. search needs) returns
+    tie.close (tie.spec Inv-loop μ-loop (search needs) (search needs) (search needs) (search needs) returns
     (λ c. omega (arith, fits _ _ 18446744073709551615 (omega arith) (c .if1 .left)))
     (λ c. omega (arith, fits _ _ 18446744073709551615 (omega arith) (c .if1 .left)))
-    (λ c. search needs) (λ c. search needs) loop-again
+    (search needs) (search needs) loop-again
     (λ c. value-ends _ _ _ _ (c .before .loop .inv .2) (c .loop-test .left) (c .before .loop .inv .1)))

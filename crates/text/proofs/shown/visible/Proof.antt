@@ -26,5 +26,5 @@ loop-again c =
 
 pub visible-spec : {M : Type 1} → statement M
 visible-spec =
-    tie.close (tie.spec Inv-loop μ-loop (λ c. search needs) (λ c. search needs) (λ c κs. search needs) (λ c. search needs) (λ c. search needs) (λ c. search needs)
-    loop-again (λ c. search needs) (λ c. (search needs, c .before .loop .inv .3)) (λ c. search needs) (λ c. (search needs, c .before .before .loop .inv .3)))
+    tie.close (tie.spec Inv-loop μ-loop (search needs) (search needs) (search needs) (search needs) (search needs) (search needs) loop-again (search needs)
+    (λ c. (search needs, c .before .loop .inv .3)) (search needs) (λ c. (search needs, c .before .before .loop .inv .3)))

@@ -10,4 +10,4 @@ slice-aggregate-result : tie.Need-slice-aggregate-result
 slice-aggregate-result c = let a = c .before .before .args in sym (length-take-le (a .n) (a .s .now) (omega arith))
 
 pub front-spec : {M : Type 1} → statement M
-front-spec = tie.close (tie.spec slice-aggregate-result (λ c. search needs) (λ c. sym (take-all _ _ (c .if1 .left))))
+front-spec = tie.close (tie.spec slice-aggregate-result (search needs) (λ c. sym (take-all _ _ (c .if1 .left))))

@@ -22,4 +22,4 @@ returns-3 c =
     (omega (arith, fits .if2 .left, fits .before .if1 .left)) (p .kept .1 .0) (p .ensures .0) (p .ensures .1) (q .ensures .0) (q .ensures .1)
 
 pub joined-spec : {M : Type 1} → statement M
-joined-spec = tie.close (tie.spec returns (λ c. search needs) returns-2 (λ c κs. search needs) (λ c κs. search needs) (λ c. search needs) returns-3)
+joined-spec = tie.close (tie.spec returns (search needs) returns-2 (search needs) (search needs) (search needs) returns-3)

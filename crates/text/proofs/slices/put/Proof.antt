@@ -33,4 +33,4 @@ pub put-spec : {M : Type 1} → statement M
 put-spec =
     tie.close (tie.spec Inv-loop μ-loop
     (λ c. (search needs, search needs, paste-zero (c .args .dst .now) (c .args .at) (c .args .src .now)))
-    (λ c. search needs) (λ c. search needs) (λ c. search needs) (λ c. search needs) (λ c. search needs) loop-again (λ c. search needs) (λ c. search needs) returns)
+    (search needs) (search needs) (search needs) (search needs) (search needs) loop-again (search needs) (search needs) returns)

@@ -39,6 +39,6 @@ pub same-spec : {M : Type 1} → statement M
 same-spec =
     tie.close (tie.spec Inv-loop μ-loop
     (λ c. unlike (λ e. let l = ap length e in omega (arith, l, c .if1 .taken)))
-    (λ c. (search needs, λ (k : ℕ) (h : k < 0). omega arith)) (λ c. search needs) (λ c. search needs) returns-2 (λ c. search needs) (λ c. search needs)
+    (λ c. (search needs, λ (k : ℕ) (h : k < 0). omega arith)) (search needs) (search needs) returns-2 (search needs) (search needs)
     (λ c. (search needs, below-more _ _ (c .before .before .before .before .loop .inv .1) (c .if2 .left)))
     returns-3)

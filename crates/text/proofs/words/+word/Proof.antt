@@ -25,9 +25,9 @@ word-below t = and 1 word-kinds.ps (falls 1 word-kinds.ps _<_ μ-word t) word.Pr
 
 pub +word-spec : {M : Type 1} → statement M
 +word-spec = close μ-word λ t. word-lts.spec (first.Asked, first.Learnt, rest.Asked, rest.Learnt, word-below t, word.Post) (word-at t) word.Post
-    (λ c κs. search needs)
+    (search needs)
     (λ c. rw (c .before .if1 .taken) (c .first .ensures))
-    (λ c κs. search needs)
-    (λ c. search needs)
+    (search needs)
+    (search needs)
     (λ c κs. (omega arith, tt))
     (λ c. let a = c .before .before .before .before .args in word-more (words (a .line .now)) _ (a .k) (c .word .result .now) (omega arith) (c .before .rest .ensures) (c .word .ensures))

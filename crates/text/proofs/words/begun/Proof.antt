@@ -5,5 +5,4 @@ use Rattle.text.proofs.words.begun.Statement.{statement}
 use Rattle.text.proofs.words.begun.Tie as tie
 
 pub begun-spec : {M : Type 1} → statement M
-begun-spec =
-    tie.close (tie.spec (λ c κs. search needs) (λ c. search needs) (λ c. search needs) (λ c. search needs) (λ c. begun-holds _ _ (c .before .blanks .ensures .0)))
+begun-spec = tie.close (tie.spec (search needs) (search needs) (search needs) (search needs) (λ c. begun-holds _ _ (c .before .blanks .ensures .0)))

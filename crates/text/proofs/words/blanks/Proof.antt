@@ -34,6 +34,4 @@ returns-2 c =
     (run-stops blanks _ _ _ (l .inv .1) (test .loop-test .taken) (sym (c .before .blank .ensures) ∙ not-true _ (c .if1 .taken)), l .inv .0)
 
 pub blanks-spec : {M : Type 1} → statement M
-blanks-spec =
-    tie.close (tie.spec Inv-loop μ-loop (λ c. search needs) (λ c. search needs) (λ c κs. search needs) (λ c. omega arith) (λ c. omega arith) loop-again returns
-    returns-2)
+blanks-spec = tie.close (tie.spec Inv-loop μ-loop (search needs) (search needs) (search needs) (λ c. omega arith) (λ c. omega arith) loop-again returns returns-2)

@@ -8,5 +8,5 @@ use Rattle.text.proofs.words.first.Tie as tie
 
 pub first-spec : {M : Type 1} → statement M
 first-spec =
-    tie.close (tie.spec (λ c κs. search needs) (λ c κs. search needs) (λ c. sym (length-take-le _ _ (c .before .ink .ensures .1)))
+    tie.close (tie.spec (search needs) (search needs) (λ c. sym (length-take-le _ _ (c .before .ink .ensures .1)))
     (λ c. first-holds _ _ _ (c .before .before .begun .ensures) (c .before .ink .ensures .0)))

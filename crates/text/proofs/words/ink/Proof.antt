@@ -33,6 +33,4 @@ returns-2 c =
     (run-stops ink _ _ _ (l .inv .1) (test .loop-test .taken) (sym (c .before .blank .ensures) ∙ c .if1 .taken), l .inv .0)
 
 pub ink-spec : {M : Type 1} → statement M
-ink-spec =
-    tie.close (tie.spec Inv-loop μ-loop (λ c. search needs) (λ c. search needs) (λ c κs. search needs) (λ c. omega arith) (λ c. omega arith) loop-again returns
-    returns-2)
+ink-spec = tie.close (tie.spec Inv-loop μ-loop (search needs) (search needs) (search needs) (λ c. omega arith) (λ c. omega arith) loop-again returns returns-2)

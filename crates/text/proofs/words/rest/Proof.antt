@@ -6,5 +6,5 @@ use Rattle.text.proofs.words.rest.Tie as tie
 
 pub rest-spec : {M : Type 1} → statement M
 rest-spec =
-    tie.close (tie.spec (λ c κs. search needs) (λ c κs. search needs) (λ c. search needs) (λ c. search needs) (λ c. search needs)
+    tie.close (tie.spec (search needs) (search needs) (search needs) (search needs) (search needs)
     (λ c. rest-holds _ _ _ (c .before .before .begun .ensures) (c .before .ink .ensures .0)))
