@@ -16,7 +16,7 @@ use Rattle.basis.proofs.Bools.{both-true, inside-holds, or-cases}
 use Rattle.operand.specs.Bytes.{byteAt, wordBy}
 use Rattle.segment.specs.Head.{words, least, word, dict, reloc, pool, real, count, entry, datasize, exitic, start, sexBytes, sexOk}
 use Rattle.segment.specs.Judge.{headChecks, routineChecks, routinesFrom, checks, judged}
-use Rattle.basis.specs.Checks.{passed, ruling}
+use Rattle.basis.specs.Checks.{passed}
 use Rattle.segment.proofs.Laws.{Header, all-good}
 use Rattle.turning.specs.Turn.{framed, position, other, swapByte, swapAt, turned}
 use Rattle.turning.specs.Twin.{Once, SameRoutine, Twins}
@@ -57,18 +57,13 @@ unfolding framed
 same-framed t s w zero h = refl
 same-framed t s w (suc n) h = rw (h (suc n) (omega arith), same-framed t s w n (λ (k : ℕ) (m : k ≤ n). h k (omega arith)))
 
--- ---- the other byte lies in the same word, inside the segment, and its other byte is the first
+-- ---- the other byte lies in the same word, and its other byte is the first
 
-record Mate (i n : ℕ) : Type 0 where
-  half : other i / 2 ≡ i / 2
-  within : other i < n
-  back : other (other i) ≡ i
-
-mate : (i n : ℕ) → i < n → n % 2 ≡ 0 → Mate i n
-mate i n l r =
+mate : (i : ℕ) → (other i / 2 ≡ i / 2) × (other (other i) ≡ i)
+mate i =
     ⊎-elim
-    (λ (e : i % 2 ≡ 0). let o = other-even i e in record { half = omega arith; within = omega arith; back = rw o (omega (arith, other-odd (i + 1) (omega arith))) })
-    (λ (e : i % 2 ≡ 1). let o = other-odd i e in record { half = omega arith; within = omega arith; back = rw o (omega (arith, other-even (i - 1) (omega arith))) })
+    (λ (e : i % 2 ≡ 0). let o = other-even i e in (omega arith, rw o (omega (arith, other-odd (i + 1) (omega arith)))))
+    (λ (e : i % 2 ≡ 1). let o = other-odd i e in (omega arith, rw o (omega (arith, other-even (i - 1) (omega arith)))))
     (halves i)
 
 -- ---- an accepted segment and its turned one
@@ -85,20 +80,21 @@ module _ (s : List ℕ) (ok : judged s ≡ passed) where
   unfolding turned
   turned-at i l = getD-swap (position s) s s i l
 
-  low-byte : (w : ℕ) → position s w ≡ true → byteAt (turned s) (2 * w) ≡ byteAt s (2 * w + 1)
-  low-byte w h =
+  -- at a word position stands the other byte of the word
+  moved-byte : (i : ℕ) → position s (i / 2) ≡ true → byteAt (turned s) i ≡ byteAt s (other i)
+  moved-byte i h =
       let g = good in
-      let m = position-in s ok w h in
-      let e : 2 * w / 2 ≡ w = omega arith in
-      turned-at (2 * w) (omega arith) ∙ swap-in (position s) s s (2 * w) (rw e h) ∙ ap (byteAt s) (other-even (2 * w) (omega arith))
+      let m = position-in s ok (i / 2) h in
+      turned-at i (omega arith) ∙ swap-in (position s) s s i h
+
+  low-byte : (w : ℕ) → position s w ≡ true → byteAt (turned s) (2 * w) ≡ byteAt s (2 * w + 1)
+  low-byte w h = let e : 2 * w / 2 ≡ w = omega arith in moved-byte (2 * w) (rw e h) ∙ ap (byteAt s) (other-even (2 * w) (omega arith))
 
   high-byte : (w : ℕ) → position s w ≡ true → byteAt (turned s) (2 * w + 1) ≡ byteAt s (2 * w)
   high-byte w h =
-      let g = good in
-      let m = position-in s ok w h in
       let e : (2 * w + 1) / 2 ≡ w = omega arith in
       let z : 2 * w + 1 - 1 ≡ 2 * w = omega arith in
-      turned-at (2 * w + 1) (omega arith) ∙ swap-in (position s) s s (2 * w + 1) (rw e h) ∙ ap (byteAt s) (other-odd (2 * w + 1) (omega arith) ∙ z)
+      moved-byte (2 * w + 1) (rw e h) ∙ ap (byteAt s) (other-odd (2 * w + 1) (omega arith) ∙ z)
 
   other-byte′ : (i : ℕ) → position s (i / 2) ≡ false → Dec (length s ≤ i) → byteAt (turned s) i ≡ byteAt s i
   other-byte′ i h (yes l) = let n = length-turned in List·getD-eq-default (turned s) 0 (omega arith) ∙ sym (List·getD-eq-default s 0 l)
@@ -188,38 +184,26 @@ module _ (s : List ℕ) (ok : judged s ≡ passed) where
   unfolding routineChecks
   same-three k l r = rw (same-entry k (omega arith), same-datasize k l (omega arith), same-exitic k l (omega arith), same-words)
 
-  pub same-checks : checks (turned s) ≡ checks s
-  unfolding checks
-  same-checks = rw (same-head, same-count, same-from (turned s) s (count s) 1 same-three) refl
-
   same-ruling : judged (turned s) ≡ judged s
-  unfolding judged
-  same-ruling = ap ruling same-checks
+  unfolding judged checks
+  same-ruling = rw (same-head, same-count, same-from (turned s) s (count s) 1 same-three)
 
   -- turned twice, it is the segment
-  turned-back : (i : ℕ) → i < length s → (b : Bool) → position s (i / 2) ≡ b → swapByte (position s) (turned s) (turned s) i ≡ byteAt s i
-  turned-back i l true h =
-      let g = good in
-      let m = mate i (length s) l (omega arith) in
-      swap-in (position s) (turned s) (turned s) i h
-      ∙ turned-at (other i) (m .within)
-      ∙ swap-in (position s) s s (other i) (rw (m .half) h)
-      ∙ ap (byteAt s) (m .back)
-  turned-back i l false h = swap-out (position s) (turned s) (turned s) i h ∙ other-byte i h
+  turned-back : (i : ℕ) (b : Bool) → position s (i / 2) ≡ b → swapByte (position s) (turned s) (turned s) i ≡ byteAt s i
+  turned-back i true h =
+      let m = mate i in
+      swap-in (position s) (turned s) (turned s) i h ∙ moved-byte (other i) (rw (m .0) h) ∙ ap (byteAt s) (m .1)
+  turned-back i false h = swap-out (position s) (turned s) (turned s) i h ∙ other-byte i h
 
-  back-at : (i : ℕ) → i < length s → byteAt (swapAt (position s) (turned s) (turned s)) i ≡ byteAt s i
-  back-at i l =
-      let n = length-turned in
-      getD-swap (position s) (turned s) (turned s) i (omega arith) ∙ turned-back i l (position s (i / 2)) refl
-
-  pub turned-twice : turned (turned s) ≡ s
+  turned-twice : turned (turned s) ≡ s
   unfolding turned
   turned-twice =
       let n = length-turned in
       let m = length-swap (position s) (turned s) (turned s) in
       swap-same (position (turned s)) (position s) (turned s) (turned s) same-position
       ∙ ext-getD 0 (swapAt (position s) (turned s) (turned s)) s (m ∙ n)
-      (λ (i : ℕ) (l : i < length (swapAt (position s) (turned s) (turned s))). back-at i (omega arith))
+      (λ (i : ℕ) (l : i < length (swapAt (position s) (turned s) (turned s))).
+      getD-swap (position s) (turned s) (turned s) i (omega arith) ∙ turned-back i (position s (i / 2)) refl)
 
 pub twins : Twins
 unfolding real position inside
