@@ -17,7 +17,7 @@ use Rattle.basis.proofs.Bools.{inside-true, inside-holds, or-cases}
 use Rattle.segment.specs.Head.{words, dict, count, entry, pool}
 use Rattle.segment.specs.Judge.{checks, judged}
 use Rattle.basis.specs.Checks.{passed, refused, ruling, followedBy}
-use Rattle.basis.proofs.Checks.{ruling-append, needed, followed, followed-by}
+use Rattle.basis.proofs.Checks.{ruling-append, passing, followed, followed-by}
 use Rattle.segment.proofs.Laws.{all-good, all-routines}
 use Rattle.turning.specs.Turn.{frame, framed, position, swapAt, turned, turnChecks, turnRuling}
 use Rattle.turning.specs.Twin.{Answers}
@@ -156,12 +156,11 @@ module _ (s : List ℕ) (room : ℕ) where
   ruling-is = ruling-append (checks s) (turnChecks s room)
 
   pub turn-good : turnRuling s room ≡ passed → (judged s ≡ passed) × (pool s ≡ 0) × (length s ≤ room)
-  unfolding ruling turnChecks
+  unfolding turnChecks
   turn-good h =
       let a = followed _ _ (sym ruling-is ∙ h) in
-      let b = needed _ _ _ _ (a .1) in
-      let d = needed _ _ _ _ (b .1) in
-      (a .0, eqb-true _ _ (b .0), leb-true _ _ (d .0))
+      let p = passing (turnChecks s room) (a .1) in
+      (a .0, eqb-true _ _ (p .0), leb-true _ _ (p .1 .0))
 
   pub turn-as-judged : (n p : ℕ) → judged s ≡ refused n p → turnRuling s room ≡ refused n p
   unfolding followedBy

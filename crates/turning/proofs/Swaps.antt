@@ -77,15 +77,19 @@ module _ (p : ℕ → Bool) (s out : List ℕ) where
   unfolding swapByte
   swap-out i h = rw h refl
 
+  -- a list that holds these bytes
+  is-swap : (l : List ℕ) → length l ≡ length out → ((i : ℕ) → i < length out → getD l i 0 ≡ swapByte p s out i) → l ≡ swapAt p s out
+  is-swap l n h =
+      let m = length-swap in
+      ext-getD 0 l (swapAt p s out) (n ∙ sym m) (λ (i : ℕ) (b : i < length l). h i (omega arith) ∙ sym (getD-swap i (omega arith)))
+
 -- rules that name the same words write the same
 pub swap-same : (p q : ℕ → Bool) (s out : List ℕ) → ((w : ℕ) → p w ≡ q w) → swapAt p s out ≡ swapAt q s out
 swap-same p q s out h = λ j. swapAt (λ w. h w j) s out
 
 -- no word written
 pub swap-none : (p : ℕ → Bool) (s out : List ℕ) → ((w : ℕ) → p w ≡ false) → swapAt p s out ≡ out
-swap-none p s out h =
-    let n = length-swap p s out in
-    ext-getD 0 (swapAt p s out) out n (λ (i : ℕ) (l : i < length (swapAt p s out)). getD-swap p s out i (omega arith) ∙ swap-out p s out i (h (i / 2)))
+swap-none p s out h = sym (is-swap p s out out refl (λ i l. sym (swap-out p s out i (h (i / 2)))))
 
 cond-or : (a b : Bool) (x y : ℕ) → cond b x (cond a x y) ≡ cond (a || b) x y
 cond-or true true x y = refl
@@ -97,12 +101,9 @@ pub swap-join : (p q : ℕ → Bool) (s out : List ℕ) → swapAt q s (swapAt p
 unfolding swapByte
 swap-join p q s out =
     let n = length-swap p s out in
-    let m = length-swap q s (swapAt p s out) in
-    let e = length-swap (λ w. p w || q w) s out in
-    ext-getD 0 (swapAt q s (swapAt p s out)) (swapAt (λ w. p w || q w) s out) (m ∙ n ∙ sym e)
-    (λ (i : ℕ) (l : i < length (swapAt q s (swapAt p s out))).
-    rw (getD-swap q s (swapAt p s out) i (omega arith), getD-swap p s out i (omega arith), getD-swap (λ w. p w || q w) s out i (omega arith))
-    (cond-or (p (i / 2)) (q (i / 2)) (byteAt s (other i)) (byteAt out i)))
+    is-swap (λ w. p w || q w) s out (swapAt q s (swapAt p s out)) (length-swap q s (swapAt p s out) ∙ n)
+    (λ (i : ℕ) (l : i < length out). getD-swap q s (swapAt p s out) i (omega arith)
+    ∙ rw (getD-swap p s out i l) (cond-or (p (i / 2)) (q (i / 2)) (byteAt s (other i)) (byteAt out i)))
 
 -- ---- one word, as the two stores of the code
 
@@ -135,10 +136,7 @@ module _ (s out : List ℕ) (w : ℕ) (r : 2 * w + 1 < length out) where
   at-byte i false h = neither i (eqb-false w (i / 2) h) ∙ sym (swap-out (eqb w) s out i h)
 
   pub swap-word : pair ≡ swapAt (eqb w) s out
-  swap-word =
-      let n : length pair ≡ length out = simp length-set in
-      ext-getD 0 pair (swapAt (eqb w) s out) (n ∙ sym (length-swap (eqb w) s out))
-      (λ (i : ℕ) (l : i < length pair). at-byte i (eqb w (i / 2)) refl ∙ sym (getD-swap (eqb w) s out i (omega arith)))
+  swap-word = is-swap (eqb w) s out pair (simp length-set) (λ i l. at-byte i (eqb w (i / 2)) refl)
 
 -- ---- words of the first part of a list leave the rest
 
@@ -156,8 +154,5 @@ module _ (p : ℕ → Bool) (s d : List ℕ) (h : (i : ℕ) → length s ≤ i �
   pub swap-front : swapAt p s (s ++ d) ≡ swapAt p s s ++ d
   swap-front =
       let n = length-swap p s s in
-      let m = length-swap p s (s ++ d) in
       let a = length-append s d in
-      let b = length-append (swapAt p s s) d in
-      ext-getD 0 (swapAt p s (s ++ d)) (swapAt p s s ++ d) (omega arith)
-      (λ (i : ℕ) (l : i < length (swapAt p s (s ++ d))). getD-swap p s (s ++ d) i (omega arith) ∙ front-byte i (omega arith) (decLe (length s) i))
+      sym (is-swap p s (s ++ d) (swapAt p s s ++ d) (omega (arith, length-append (swapAt p s s) d)) (λ i l. sym (front-byte i l (decLe (length s) i))))
