@@ -33,7 +33,9 @@ pub record Header (s : List ℕ) : Type 0 where
   pub room : dict s + count s < words s
 
 shaped : (s : List ℕ) → shapeOk s ≡ true → (32 ≤ length s) × (length s ≡ 2 * words s) × (words s ≤ 32767)
-shaped s h = let p = both-true _ _ h in omega (arith, eqb-true (length s % 2) 0 (p .0), inside-true _ _ _ (p .1))
+shaped s h =
+    let p = both-true (eqb (length s % 2) 0) _ h in
+    omega (arith, eqb-true (length s % 2) 0 (p .0), inside-true _ _ _ (p .1))
 
 pub pooled : (s : List ℕ) → poolOk s ≡ true → (pool s ≡ 0) ⊎ ((11 ≤ pool s) × (pool s < words s))
 pooled s h = or-cases _ _ h (λ (e : eqb (pool s) 0 ≡ true). inl (eqb-true _ _ e)) (λ (e : inside 11 (words s) (pool s) ≡ true). inr (inside-true _ _ _ e))

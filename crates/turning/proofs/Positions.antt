@@ -51,8 +51,8 @@ module _ (s out : List ℕ) (a : ℕ) where
         let m : v ≤ w = omega arith in
         ⊎-elim (λ (e : v ≡ w). simp (eq-eqb w v (sym e), or-true)) (λ (k : v < w). rw (inside-holds a w v (omega arith) k)) (eq-or-lt-of-le m))
 
-    pub range-more : (t : List ℕ) → t ≡ swapAt (inside a w) s out → swapAt (eqb w) s t ≡ swapAt (inside a (w + 1)) s out
-    range-more t h = rw h (swap-join (inside a w) (eqb w) s out ∙ swap-same (λ v. inside a w v || eqb w v) (inside a (w + 1)) s out one-more)
+    pub range-more : {t : List ℕ} → t ≡ swapAt (inside a w) s out → swapAt (eqb w) s t ≡ swapAt (inside a (w + 1)) s out
+    range-more h = rw h (swap-join (inside a w) (eqb w) s out ∙ swap-same (λ v. inside a w v || eqb w v) (inside a (w + 1)) s out one-more)
 
 -- ---- EXITIC and DATASIZE
 

@@ -1,7 +1,6 @@
 -- `checks::judge` meets its contract. Assumes nothing.
 use mathlib.Core.Path.{sym, ap, _∙_}
 use borrow.Author.Needs.{needs}
-use denote.Ref.{now}
 use Rattle.basis.specs.Checks.{followedBy}
 use Rattle.segment.specs.Judge.{rulingOf}
 use Rattle.segment.proofs.Laws.{judged-is}
@@ -14,14 +13,14 @@ returns c =
     let told = c .before in
     let head = told .before .before in
     c .judge-routines .ensures
-    ∙ sym (judged-is (now (head .before .before .args .seg)) ∙ simp (sym (head .judge-head .ensures) ∙ ap rulingOf (told .enum-told .given .1)))
+    ∙ sym (judged-is (head .before .before .args .seg .now) ∙ simp (sym (head .judge-head .ensures) ∙ ap rulingOf (told .enum-told .given .1)))
 
 returns-2 : tie.Need-returns-2
 unfolding followedBy
 returns-2 c =
     let head = c .before .before in
     let told = ap rulingOf (c .enum-told2 .given .1) in
-    told ∙ sym (judged-is (now (head .before .before .args .seg)) ∙ simp (sym (head .judge-head .ensures) ∙ told))
+    told ∙ sym (judged-is (head .before .before .args .seg .now) ∙ simp (sym (head .judge-head .ensures) ∙ told))
 
 pub judge-spec : {M : Type 1} → statement M
 judge-spec =

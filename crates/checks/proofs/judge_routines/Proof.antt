@@ -5,7 +5,6 @@ use Prim.Native.Nat.{_+_, _-_, _≤_}
 use borrow.Author.Needs.{needs}
 use borrow.Author.Tests.{not-true, not-false}
 use native.Mathlib.Omega.{arith}
-use denote.Ref.{now}
 use Rattle.segment.specs.Head.{count}
 use Rattle.segment.specs.declared.Segment.{Segment}
 use Rattle.basis.specs.Checks.{ruling}
@@ -23,7 +22,7 @@ abbrev μ-loop : tie.MeasureT-loop
 loop-holds : tie.Need-loop-holds Inv-loop μ-loop
 loop-holds c =
     let head = c .before .before in
-    let e : head .head .result .count - 0 ≡ count (now (head .before .before .args .seg)) = omega (arith, ap (λ (h : Segment). h .count) (head .head .ensures)) in
+    let e : head .head .result .count - 0 ≡ count (head .before .before .args .seg .now) = omega (arith, ap (λ (h : Segment). h .count) (head .head .ensures)) in
     (omega arith, rw e)
 
 -- word D+k lies inside, since D+n does
@@ -33,7 +32,7 @@ routine-passes-requires c κs =
     let start = head .before .before in
     let w = ap (λ (h : Segment). h .words) (head .head .ensures) in
     let d = ap (λ (h : Segment). h .dict) (head .head .ensures) in
-    let room = head-good (now (start .args .seg)) (start .pre) .room in
+    let room = head-good (start .args .seg .now) (start .pre) .room in
     (ap (λ (h : Segment). h .least) (head .head .ensures), w, d, omega (arith, room, w, d, ap (λ (h : Segment). h .count) (head .head .ensures), c .loop-test .taken))
 
 returns : tie.Need-returns Inv-loop μ-loop

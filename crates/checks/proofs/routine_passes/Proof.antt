@@ -2,7 +2,6 @@
 use mathlib.Core.Path.{sym, _∙_}
 use borrow.Author.Tests.{lt-ltb, le-ltb, le-leb, lt-leb}
 use borrow.Author.Needs.{needs}
-use denote.Ref.{now}
 use Rattle.segment.proofs.Laws.{passes-by}
 use Rattle.checks.proofs.routine_passes.Statement.{statement}
 use Rattle.checks.proofs.routine_passes.Tie as tie
@@ -12,13 +11,13 @@ returns : tie.Need-returns
 returns c =
     let entry = c .before in
     let start = entry .before .before in
-    sym (passes-by (now (start .args .seg)) (start .args .k) (start .pre .0) (start .pre .1) (start .pre .2) (entry .word-in .ensures) ∙ simp (lt-leb _ _ (c .if1 .taken)))
+    sym (passes-by (start .args .seg .now) (start .args .k) (start .pre .0) (start .pre .1) (start .pre .2) (entry .word-in .ensures) ∙ simp (lt-leb _ _ (c .if1 .taken)))
 
 returns-2 : tie.Need-returns-2
 returns-2 c =
     let entry = c .before .before in
     let start = entry .before .before in
-    sym (passes-by (now (start .args .seg)) (start .args .k) (start .pre .0) (start .pre .1) (start .pre .2) (entry .word-in .ensures)
+    sym (passes-by (start .args .seg .now) (start .args .k) (start .pre .0) (start .pre .1) (start .pre .2) (entry .word-in .ensures)
     ∙ simp (le-leb _ _ (c .before .if1 .left), le-ltb _ _ (c .if2 .taken)))
 
 returns-3 : tie.Need-returns-3
@@ -26,7 +25,7 @@ returns-3 c =
     let datasize = c .before in
     let entry = datasize .before .before .before in
     let start = entry .before .before in
-    sym (passes-by (now (start .args .seg)) (start .args .k) (start .pre .0) (start .pre .1) (start .pre .2) (entry .word-in .ensures)
+    sym (passes-by (start .args .seg .now) (start .args .k) (start .pre .0) (start .pre .1) (start .pre .2) (entry .word-in .ensures)
     ∙ simp (le-leb _ _ (datasize .before .before .if1 .left), lt-ltb _ _ (datasize .before .if2 .left), ← datasize .word-in2 .ensures, le-ltb _ _ (c .if3 .taken)))
 
 returns-4 : tie.Need-returns-4
@@ -35,7 +34,7 @@ returns-4 c =
     let datasize = exitic .before .before in
     let entry = datasize .before .before .before in
     let start = entry .before .before in
-    sym (passes-by (now (start .args .seg)) (start .args .k) (start .pre .0) (start .pre .1) (start .pre .2) (entry .word-in .ensures)
+    sym (passes-by (start .args .seg .now) (start .args .k) (start .pre .0) (start .pre .1) (start .pre .2) (entry .word-in .ensures)
     ∙ simp (
       le-leb _ _ (datasize .before .before .if1 .left),
       lt-ltb _ _ (datasize .before .if2 .left),

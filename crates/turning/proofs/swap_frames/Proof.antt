@@ -4,7 +4,6 @@ use Prim.Native.Nat.{_-_, _≤_}
 use borrow.Author.Needs.{needs}
 use native.Mathlib.Omega.{arith}
 use lib.ListN.{length}
-use denote.Ref.{now}
 use Rattle.segment.specs.declared.Routine.{Routine}
 use Rattle.turning.specs.Turn.{framed, swapAt}
 use Rattle.turning.proofs.Positions.{entry-fits, frames-start, frames-more}
@@ -22,13 +21,13 @@ sub-swap-words : tie.Need-sub-swap-words Inv-loop μ-loop
 sub-swap-words c =
     let read = c .before .before in
     let start = read .before .before .before .before .before in
-    entry-fits (now (start .args .seg)) (start .pre .0) (start .pre .2) (read .before .loop-test .taken) (ap (λ (r : Routine). r .entry) (read .routine-of .ensures)) .0
+    entry-fits (start .args .seg .now) (start .pre .0) (start .pre .2) (read .before .loop-test .taken) (ap (λ (r : Routine). r .entry) (read .routine-of .ensures)) .0
 
 swap-words-requires : tie.Need-swap-words-requires Inv-loop μ-loop
 swap-words-requires c κs =
     let read = c .before .before in
     let start = read .before .before .before .before .before in
-    let f = entry-fits (now (start .args .seg)) (start .pre .0) (start .pre .2) (read .before .loop-test .taken) (ap (λ (r : Routine). r .entry) (read .routine-of .ensures)) in
+    let f = entry-fits (start .args .seg .now) (start .pre .0) (start .pre .2) (read .before .loop-test .taken) (ap (λ (r : Routine). r .entry) (read .routine-of .ensures)) in
     (omega arith, omega (arith, f .1), omega arith)
 
 loop-again : tie.Need-loop-again Inv-loop μ-loop
@@ -38,8 +37,8 @@ loop-again c =
     let l = read .before .before .loop in
     let start = read .before .before .before .before .before in
     let e = ap (λ (r : Routine). r .entry) (read .routine-of .ensures) in
-    let f = entry-fits (now (start .args .seg)) (start .pre .0) (start .pre .2) (read .before .loop-test .taken) e in
-    (omega arith, t .kept .1 .0 ∙ l .inv .1, t .ensures ∙ frames-more (now (start .args .seg)) (now (start .args .out)) (l .k) (l .inv .2) e (f .0))
+    let f = entry-fits (start .args .seg .now) (start .pre .0) (start .pre .2) (read .before .loop-test .taken) e in
+    (omega arith, t .kept .1 .0 ∙ l .inv .1, t .ensures ∙ frames-more (start .args .seg .now) (start .args .out .now) (l .k) (l .inv .2) e (f .0))
 
 returns : tie.Need-returns Inv-loop μ-loop
 returns c =
@@ -51,5 +50,5 @@ returns c =
 pub swap-frames-spec : {M : Type 1} → statement M
 swap-frames-spec =
     tie.close (tie.spec Inv-loop μ-loop
-    (λ c. (omega arith, refl, frames-start (now (c .before .before .args .seg)) (now (c .before .before .args .out))))
+    (λ c. (omega arith, refl, frames-start (c .before .before .args .seg .now) (c .before .before .args .out .now)))
     (search needs) (search needs) (search needs) sub-swap-words (search needs) swap-words-requires (search needs) loop-again (λ c. c .before .loop .inv .1) returns)

@@ -2,7 +2,6 @@
 use borrow.Author.Needs.{needs}
 use native.Mathlib.Omega.{arith}
 use lib.ListN.{length-set}
-use denote.Ref.{now}
 use Rattle.turning.proofs.Swaps.{swap-word}
 use Rattle.turning.proofs.swap_word.Statement.{statement}
 use Rattle.turning.proofs.swap_word.Tie as tie
@@ -10,7 +9,7 @@ use Rattle.turning.proofs.swap_word.Tie as tie
 returns : tie.Need-returns
 returns c =
     let a = c .before .before .args in
-    swap-word (now (a .seg)) (now (a .out)) (a .w) (omega arith)
+    swap-word (a .seg .now) (a .out .now) (a .w) (omega arith)
 
 pub swap-word-spec : {M : Type 1} → statement M
 swap-word-spec =

@@ -2,7 +2,6 @@
 use mathlib.Core.Path.{ap}
 use borrow.Author.Needs.{needs}
 use native.Mathlib.Omega.{arith}
-use denote.Ref.{now}
 use Rattle.segment.specs.declared.Segment.{Segment}
 use Rattle.segment.proofs.Laws.{all-good}
 use Rattle.turning.proofs.Positions.{all-written}
@@ -14,14 +13,14 @@ swap-words-requires : tie.Need-swap-words-requires
 swap-words-requires c κs =
     let copied = c .before .before .before in
     let start = copied .before .before .before .before .before .before .before in
-    let g = all-good (now (start .args .seg)) (start .pre .0) .header in
+    let g = all-good (start .args .seg .now) (start .pre .0) .header in
     (omega arith, omega arith, omega arith)
 
 swap-words-requires-2 : tie.Need-swap-words-requires-2
 swap-words-requires-2 c κs =
     let copied = c .before .before .before .before .before .before .before in
     let start = copied .before .before .before .before .before .before .before in
-    let g = all-good (now (start .args .seg)) (start .pre .0) .header in
+    let g = all-good (start .args .seg .now) (start .pre .0) .header in
     (omega arith, omega arith, omega arith)
 
 swap-words-requires-3 : tie.Need-swap-words-requires-3
@@ -29,7 +28,7 @@ swap-words-requires-3 c κs =
     let copied = c .before .before .before .before .before .before .before .before .before .before .before in
     let head = copied .before .before .before .before in
     let start = head .before .before .before in
-    let g = all-good (now (start .args .seg)) (start .pre .0) .header in
+    let g = all-good (start .args .seg .now) (start .pre .0) .header in
     (omega arith, omega (arith, ap (λ (h : Segment). h .dict) (head .head .ensures), ap (λ (h : Segment). h .count) (head .head .ensures)), omega arith)
 
 swap-frames-requires : tie.Need-swap-frames-requires
@@ -47,7 +46,7 @@ returns c =
     let copied = pointers .before .before .before .before in
     let head = copied .before .before .before .before in
     let start = head .before .before .before in
-    all-written (now (start .args .seg)) (start .pre .0) _ (ap (λ (h : Segment). h .dict) (head .head .ensures)) (ap (λ (h : Segment). h .count) (head .head .ensures))
+    all-written (start .args .seg .now) (start .pre .0) _ (ap (λ (h : Segment). h .dict) (head .head .ensures)) (ap (λ (h : Segment). h .count) (head .head .ensures))
     (copied .copy .ensures) (pointers .swap-words .ensures) (sex .swap-words2 .ensures) (dictionary .swap-words3 .ensures) (frames .swap-frames .ensures)
 
 pub turn-words-spec : {M : Type 1} → statement M
