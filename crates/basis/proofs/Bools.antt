@@ -2,11 +2,11 @@
 -- Assumes nothing.
 use mathlib.Core.Path.{_≡_, refl, sym, _∙_}
 use mathlib.Core.List.{List, [], _∷_}
-use mathlib.Core.Bool.{Bool, true, false, cond, _&&_, _||_, not, false≢true}
+use mathlib.Core.Bool.{Bool, true, false, cond, _&&_, _||_, false≢true}
 use Prim.Native.Nat.{ℕ, _+_, _-_, _≤_, _<_}
 use native.Mathlib.Omega.{arith}
 use native.Mathlib.Decide.{decLe}
-use lib.Dec.{T, leb, ltb}
+use lib.Dec.{leb, ltb}
 use Rattle.basis.specs.Bools.{every, Holds, inside}
 use borrow.Author.Tests.{leb-true, ltb-true, le-leb, lt-leb, lt-ltb}
 
@@ -55,20 +55,9 @@ pub or-cases : {P : Type 0} (a b : Bool) → (a || b) ≡ true → (a ≡ true �
 or-cases true b h f g = f refl
 or-cases false b h f g = g h
 
-pub or-left : (a b : Bool) → (a || b) ≡ false → a ≡ false
-or-left true b h = h
-or-left false b h = refl
-
-pub or-right : (a b : Bool) → (a || b) ≡ false → b ≡ false
-or-right true b h = absurd (false≢true (sym h))
-or-right false b h = h
-
 pub or-none : (a b : Bool) → (a || b) ≡ false → (a ≡ false) × (b ≡ false)
-or-none a b h = (or-left a b h, or-right a b h)
-
-pub is-true : (b : Bool) → T b → b ≡ true
-is-true true t = refl
-is-true false t = absurd t
+or-none true b h = absurd (false≢true (sym h))
+or-none false b h = (refl, h)
 
 leb-iff′ : (a b c d : ℕ) → (a ≤ b → c ≤ d) → (b < a → d < c) → Dec (a ≤ b) → leb a b ≡ leb c d
 leb-iff′ a b c d f g (yes h) = le-leb a b h ∙ sym (le-leb c d (f h))

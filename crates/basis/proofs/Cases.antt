@@ -1,7 +1,8 @@
 -- The cases of specs/Cases hold: each side computes to the same word.
 -- specs/Integer stands below. Assumes nothing.
 use mathlib.Core.Path.{refl}
-use Rattle.basis.specs.Integer.{modulo, integerOf, wordOf, unary, binary, truth, ordered, flipped, subOf, mulOf, quotOf, remOf, negOf, magOf, incOf, decOf, eqOf, neOf, leqOf, geqOf, leuOf, geuOf, andOf, orOf, notOf}
+use Rattle.basis.specs.Integer.{modulo, integerOf, wordOf, unary, binary, truth, ordered, flipped}
+use Rattle.basis.specs.Integer.{subOf, mulOf, quotOf, remOf, negOf, magOf, incOf, decOf, eqOf, neOf, leqOf, geqOf, leuOf, geuOf, andOf, orOf, notOf}
 use Rattle.basis.specs.Cases.{minus, Others}
 
 pub others : Others

@@ -95,6 +95,12 @@ unfolding ruling
 all-passed [] h = refl
 all-passed (check n p ok ∷ cs) h = rw (h .0) (all-passed cs (h .1))
 
+pub passing : (cs : List Check) → ruling cs ≡ passed → Passing cs
+unfolding ruling
+passing [] h = tt
+passing (check n p true ∷ cs) h = (refl, passing cs h)
+passing (check n p false ∷ cs) h = absurd (never h refl)
+
 -- checks that pass are as if they were not there
 pub passed-then : (cs ds : List Check) → Passing cs → ruling (cs ++ ds) ≡ ruling ds
 unfolding ruling

@@ -1,18 +1,16 @@
 -- From the integers of specs/Integer to the arithmetic of the code: each operation on n-bit words is one on numbers modulo 2 ^ n.
 -- The laws stand over the width, or over any modulus; the proofs of src/integers and the crates above cite them.
 -- Assumes nothing.
-use mathlib.Core.Path.{_≡_, refl, sym, ap, ap₂, _∙_, subst}
+use mathlib.Core.Path.{_≡_, refl, sym, ap, _∙_, subst}
 use Prim.Native.Nat.{ℕ, zero, suc, _+_, _-_, _*_, _/_, _%_, _^_, _≤_, _<_}
 use native.Mathlib.Nat.{mod-lt, mod-eq-of-lt, mod-le, div-le-self, div-add-mod', div-zero, zero-mod, mod-zero, mod-add-mod, add-mul-mod-self-right, add-comm, zero-mul, lt-of-le-of-lt}
 use native.Mathlib.Omega.{arith}
-use mathlib.Core.Bool.{Bool, true, false}
-use lib.Dec.{ltb, leb, lit<}
-use lib.Bits.{xor-lt}
-use lib.Pow.{pow-pos, ones-lt}
+use lib.Dec.{ltb, leb}
+use lib.Pow.{pow-pos}
 use lib.IntN.{ℤ, pos, negsuc, negℤ, natAbs, subℕ, _+ℤ_, _-ℤ_, _*ℤ_, negℤ-+ℤ}
 use lib.Signed.{mag, quotZ, remZ, leZ}
 use borrow.Author.Tests.{ltb-true, ltb-false, lt-ltb, le-ltb, lt-leb, le-leb}
-use Rattle.basis.specs.Integer.{modulo, integerOf, wordOf, unary, binary, ordered, truth, flipped, addOf, subOf, mulOf, quotOf, remOf, negOf, magOf, incOf, decOf, leqOf}
+use Rattle.basis.specs.Integer.{modulo, integerOf, wordOf, unary, binary, ordered, truth, addOf, subOf, mulOf, quotOf, remOf, negOf, magOf, incOf, decOf, leqOf}
 use Rattle.basis.specs.Division.{Division, RemainderSmaller, RemainderSign}
 use Rattle.basis.proofs.Bools.{cond-holds, leb-iff}
 
@@ -204,10 +202,6 @@ module _ (n x y : ℕ) (fx : x < 2 ^ n) (fy : y < 2 ^ n) where
       (λ hy. rw (bias-low n y halves hy) (sym (le-leb (x - half n) (y + half n) (omega arith))))
       (λ v e hy. rw (bias-high n y halves fy hy) (leb-iff v u (x - half n) (y - half n) (omega arith) (omega arith)))))
 
--- equal integers have equal words
-pub injective : (n x y : ℕ) → x < 2 ^ n → y < 2 ^ n → integerOf n x ≡ integerOf n y → x ≡ y
-injective n x y fx fy e = sym (back n x fx) ∙ ap (wordOf n) e ∙ back n y fy
-
 -- ---- division cut towards zero: quotient times divisor and remainder make the dividend, and the remainder is the smaller
 
 times-pos : (q b : ℕ) → negℤ (pos q) *ℤ pos b ≡ negℤ (pos (q * b))
@@ -250,58 +244,6 @@ abs-fits n x h = subst (λ (a : ℕ). a < 2 ^ n) (magnitude n x h) (modulo-below
 -- a magnitude is 0 only of the word 0
 pub abs-some : (n x : ℕ) → x < 2 ^ n → (x ≡ 0 → ⊥) → 0 < abs n x
 abs-some n x h some = signs n x h (λ (z : ℤ). 0 < natAbs z) (λ _. omega arith) (λ u _ _. omega arith)
-
-module _ (n x y : ℕ) (fx : x < 2 ^ n) (fy : y < 2 ^ n) where
-  quot-fits : abs n x / abs n y < 2 ^ n
-  quot-fits = lt-of-le-of-lt (div-le-self (abs n x) (abs n y)) (abs-fits n x fx)
-
-  rem-fits : abs n x % abs n y < 2 ^ n
-  rem-fits = lt-of-le-of-lt (mod-le (abs n x) (abs n y)) (abs-fits n x fx)
-
-  pub quot-low-low : x < half n → y < half n → binary n quotZ x y ≡ abs n x / abs n y
-  unfolding binary wordOf modulo
-  quot-low-low p q = rw (low n x fx p, low n y fy q) (mod-eq-of-lt (rw (low n x fx p, low n y fy q) at quot-fits))
-
-  pub quot-high-high : half n ≤ x → half n ≤ y → binary n quotZ x y ≡ abs n x / abs n y
-  unfolding binary wordOf modulo
-  quot-high-high p q = rw (high n x fx p, high n y fy q) (mod-eq-of-lt (rw (high n x fx p, high n y fy q) at quot-fits))
-
-  pub quot-low-high : x < half n → half n ≤ y → binary n quotZ x y ≡ unary n negℤ (abs n x / abs n y)
-  unfolding binary
-  quot-low-high p q =
-      rw (negative n (abs n x / abs n y) quot-fits, low n x fx p, high n y fy q)
-
-  pub quot-high-low : half n ≤ x → y < half n → binary n quotZ x y ≡ unary n negℤ (abs n x / abs n y)
-  unfolding binary
-  quot-high-low p q =
-      rw (negative n (abs n x / abs n y) quot-fits, high n x fx p, low n y fy q)
-
-  pub rem-low : x < half n → binary n remZ x y ≡ abs n x % abs n y
-  unfolding binary wordOf modulo
-  rem-low p = rw (low n x fx p) (mod-eq-of-lt (rw (low n x fx p) at rem-fits))
-
-  pub rem-high : half n ≤ x → binary n remZ x y ≡ unary n negℤ (abs n x % abs n y)
-  unfolding binary
-  rem-high p = rw (negative n (abs n x % abs n y) rem-fits, high n x fx p)
-
--- by 0 the quotient is 0, and the remainder is the dividend
-module _ (n x : ℕ) (fx : x < 2 ^ n) where
-  pub quot-zero : binary n quotZ x 0 ≡ 0
-  unfolding binary wordOf modulo
-  quot-zero =
-      rw (low n 0 (pow-pos n) (pow-pos (n - 1)))
-      (signs n x fx (λ (z : ℤ). wordOf n (quotZ z (pos 0)) ≡ 0)
-      (λ _. rw (div-zero x) (zero-mod (2 ^ n)))
-      (λ u _ _. rw (div-zero (suc u)) (zero-mod (2 ^ n))))
-
-  pub rem-zero : binary n remZ x 0 ≡ x
-  unfolding binary
-  rem-zero =
-      rw (low n 0 (pow-pos n) (pow-pos (n - 1)))
-      (signs n x fx (λ (z : ℤ). wordOf n z ≡ x → wordOf n (remZ z (pos 0)) ≡ x)
-      (λ _ b. rw (mod-zero x) b)
-      (λ u _ _ b. rw (mod-zero (suc u)) b)
-      (back n x fx))
 
 -- ---- the product, one bit of l at a time: what was added up, and f times what is left of l, keep their sum modulo m
 
@@ -375,69 +317,62 @@ module _ (x : ℕ) (fx : x < 65536) where
   mag-high h = omega (arith, mag-is ∙ ap natAbs (high 16 x fx h), neg-is)
 
 -- division, from the words of the magnitudes
-module _ (x y a b : ℕ) (fx : x < 65536) (fy : y < 65536) (ax : a ≡ magOf x) (by : b ≡ magOf y) where
+module _ (x y : ℕ) {a b : ℕ} (fx : x < 65536) (fy : y < 65536) (ax : a ≡ magOf x) (by : b ≡ magOf y) where
   pub divisor-some : (y ≡ 0 → ⊥) → 0 < b
   divisor-some h = omega (arith, mag-is y fy, abs-some 16 y fy h)
 
   shares : a / b ≡ abs 16 x / abs 16 y
-  shares = ap₂ (λ (s t : ℕ). s / t) (ax ∙ mag-is x fx) (by ∙ mag-is y fy)
+  shares = rw (ax ∙ mag-is x fx, by ∙ mag-is y fy)
+
+  share-fits : abs 16 x / abs 16 y < 65536
+  share-fits = lt-of-le-of-lt (div-le-self (abs 16 x) (abs 16 y)) (abs-fits 16 x fx)
 
   rests : a % b ≡ abs 16 x % abs 16 y
-  rests = ap₂ (λ (s t : ℕ). s % t) (ax ∙ mag-is x fx) (by ∙ mag-is y fy)
+  rests = rw (ax ∙ mag-is x fx, by ∙ mag-is y fy)
+
+  rest-fits : abs 16 x % abs 16 y < 65536
+  rest-fits = lt-of-le-of-lt (mod-le (abs 16 x) (abs 16 y)) (abs-fits 16 x fx)
 
   pub quot-plus-plus : x < 32768 → y < 32768 → a / b ≡ quotOf x y
-  unfolding quotOf
-  quot-plus-plus p q = shares ∙ sym (quot-low-low 16 x y fx fy p q)
+  unfolding quotOf binary wordOf modulo
+  quot-plus-plus p q = shares ∙ rw (low 16 x fx p, low 16 y fy q) (sym (mod-eq-of-lt (rw (low 16 x fx p, low 16 y fy q) at share-fits)))
 
   pub quot-minus-minus : 32768 ≤ x → 32768 ≤ y → a / b ≡ quotOf x y
-  unfolding quotOf
-  quot-minus-minus p q = shares ∙ sym (quot-high-high 16 x y fx fy p q)
+  unfolding quotOf binary wordOf modulo
+  quot-minus-minus p q = shares ∙ rw (high 16 x fx p, high 16 y fy q) (sym (mod-eq-of-lt (rw (high 16 x fx p, high 16 y fy q) at share-fits)))
 
   pub quot-plus-minus : x < 32768 → 32768 ≤ y → negOf (a / b) ≡ quotOf x y
-  unfolding quotOf negOf
-  quot-plus-minus p q = ap negOf shares ∙ sym (quot-low-high 16 x y fx fy p q)
+  unfolding quotOf negOf binary
+  quot-plus-minus p q = ap negOf shares ∙ rw (negative 16 (abs 16 x / abs 16 y) share-fits, low 16 x fx p, high 16 y fy q)
 
   pub quot-minus-plus : 32768 ≤ x → y < 32768 → negOf (a / b) ≡ quotOf x y
-  unfolding quotOf negOf
-  quot-minus-plus p q = ap negOf shares ∙ sym (quot-high-low 16 x y fx fy p q)
+  unfolding quotOf negOf binary
+  quot-minus-plus p q = ap negOf shares ∙ rw (negative 16 (abs 16 x / abs 16 y) share-fits, high 16 x fx p, low 16 y fy q)
 
   pub rem-plus : x < 32768 → a % b ≡ remOf x y
-  unfolding remOf
-  rem-plus p = rests ∙ sym (rem-low 16 x y fx fy p)
+  unfolding remOf binary wordOf modulo
+  rem-plus p = rests ∙ rw (low 16 x fx p) (sym (mod-eq-of-lt (rw (low 16 x fx p) at rest-fits)))
 
   pub rem-minus : 32768 ≤ x → negOf (a % b) ≡ remOf x y
-  unfolding remOf negOf
-  rem-minus p = ap negOf rests ∙ sym (rem-high 16 x y fx fy p)
+  unfolding remOf negOf binary
+  rem-minus p = ap negOf rests ∙ rw (negative 16 (abs 16 x % abs 16 y) rest-fits, high 16 x fx p)
 
--- by 0
+-- by 0 the quotient is 0, and the remainder is the dividend
 module _ (x y : ℕ) (fx : x < 65536) (none : y ≡ 0) where
   pub quot-none : quotOf x y ≡ 0
-  unfolding quotOf
-  quot-none = rw none (quot-zero 16 x fx)
+  unfolding quotOf binary wordOf modulo
+  quot-none =
+      rw (none, low 16 0 (pow-pos 16) (pow-pos 15))
+      (signs 16 x fx (λ (z : ℤ). wordOf 16 (quotZ z (pos 0)) ≡ 0) (λ _. rw (div-zero x) (zero-mod 65536)) (λ u _ _. rw (div-zero (suc u)) (zero-mod 65536)))
 
   pub rem-none : remOf x y ≡ x
-  unfolding remOf
-  rem-none = rw none (rem-zero 16 x fx)
+  unfolding remOf binary
+  rem-none =
+      rw (none, low 16 0 (pow-pos 16) (pow-pos 15))
+      (signs 16 x fx (λ (z : ℤ). wordOf 16 z ≡ x → wordOf 16 (remZ z (pos 0)) ≡ x) (λ _ b. rw (mod-zero x) b) (λ u _ _ b. rw (mod-zero (suc u)) b) (back 16 x fx))
 
 -- ---- every result is a word
 
 pub below : (n : ℕ) (z : ℤ) → wordOf n z < 2 ^ n
 unfolding wordOf
 below n z = modulo-below (2 ^ n) (pow-pos n) z
-
-pub unary-below : (n : ℕ) (f : ℤ → ℤ) (x : ℕ) → unary n f x < 2 ^ n
-unfolding unary
-unary-below n f x = below n (f (integerOf n x))
-
-pub binary-below : (n : ℕ) (f : ℤ → ℤ → ℤ) (x y : ℕ) → binary n f x y < 2 ^ n
-unfolding binary
-binary-below n f x y = below n (f (integerOf n x) (integerOf n y))
-
-pub truth-below : (b : Bool) → truth b < 2
-unfolding truth
-truth-below true = lit< tt
-truth-below false = lit< tt
-
-pub flipped-below : (n x : ℕ) → x < 2 ^ n → flipped n x < 2 ^ n
-unfolding flipped
-flipped-below n x h = xor-lt n x (2 ^ n - 1) h (ones-lt n)

@@ -2,13 +2,13 @@
 -- Above: the proofs of `read`, `by_row`, `first_operand` and `second_operand`; below: Rows and the definitions. Assumes nothing.
 use Prim.Native.Nat.{ℕ, _+_, _/_, _%_, _≤_, _<_}
 use native.Mathlib.Omega.{arith}
-use mathlib.Core.Path.{_≡_, refl, ap, _∙_}
-use mathlib.Core.Bool.{Bool, true, false}
+use mathlib.Core.Path.{_≡_, refl}
+use mathlib.Core.Bool.{true}
 use mathlib.Core.List.{List, [], _∷_}
 use lib.Dec.{ltb}
 use lib.ListN.{length, drop}
 use borrow.Author.Tests.{ltb-true, ltb-false, leb-true, eqb-true, lt-ltb, le-ltb}
-use Rattle.basis.proofs.Bools.{every-holds}
+use Rattle.basis.proofs.Bools.{every-holds, cond-holds}
 use Rattle.operand.specs.Bytes.{byteAt}
 use Rattle.operand.specs.Operand.{Form, Fetched, got, out, ifThere, fetched, formAt}
 use Rattle.pmachine.specs.Meaning.{Meaning}
@@ -47,8 +47,7 @@ second-is (carried forms taken given does) n first x s at o e h q =
     let t : n % 256 ≡ taken = eqb-true _ _ (a .1 .1 .1 .1 .0) in
     let g : n / 256 % 256 ≡ given = eqb-true _ _ (a .1 .1 .1 .1 .1 .0) in
     let d : n / 524288 % 8 ≡ digitOf (drop 1 forms) = eqb-true _ _ (a .1 .1 .0) in
-    let f : o ≡ leading (drop 1 forms) s at = q ∙ ap (λ (k : ℕ). byDigit k s at) d ∙ by-digit (drop 1 forms) s at in
-    rw (t, g, f) (last first taken given x s at forms (leb-true _ _ (a .1 .1 .1 .0)))
+    rw (t, g, q, d, by-digit (drop 1 forms) s at) (last first taken given x s at forms (leb-true _ _ (a .1 .1 .1 .0)))
 second-is uncarried n first x s at o e h q = let z : ⊥ = omega (arith, leb-true 2147483648 n e) in absurd z
 
 -- ---- the first operand
@@ -77,8 +76,7 @@ unfolding agrees byRow
 first-is (carried forms taken given does) n first s at o e h q =
     let a = every-holds _ e in
     let d : n / 65536 % 8 ≡ digitOf forms = eqb-true _ _ (a .1 .0) in
-    let f : o ≡ leading forms s at = q ∙ ap (λ (k : ℕ). byDigit k s at) d ∙ by-digit forms s at in
-    rw f (begun first taken given does s at forms)
+    rw (q, d, by-digit forms s at) (begun first taken given does s at forms)
 first-is uncarried n first s at o e h q = let z : ⊥ = omega (arith, leb-true 2147483648 n e) in absurd z
 
 -- ---- the first byte
@@ -91,27 +89,17 @@ bare-is uncarried n first s at e h = refl
 -- read as UB it is there, and the operands begin after it
 pub byte-there : (s : List ℕ) (at v next : ℕ) → got v next ≡ fetched (formAt 1) s at → (at < length s) × (v ≡ byteAt s at) × (next ≡ at + 1)
 unfolding fetched formAt ifThere
-byte-there s at v next q = go (ltb at (length s)) refl
-  where
-    go : (t : Bool) → ltb at (length s) ≡ t → (at < length s) × (v ≡ byteAt s at) × (next ≡ at + 1)
-    go true e = let h : got v next ≡ got (byteAt s at) (at + 1) = rw e at q in (ltb-true at (length s) e, cc, cc)
-    go false e =
-        let h : got v next ≡ out at = rw e at q in
-        let z : _≡_ {A = ℕ} 0 1 = cc in
-        let f : ⊥ = omega arith in
-        absurd f
+byte-there s at v next =
+    cond-holds (λ o. got v next ≡ o → (at < length s) × (v ≡ byteAt s at) × (next ≡ at + 1)) (ltb at (length s))
+    (λ e (h : got v next ≡ got (byteAt s at) (at + 1)). (ltb-true at (length s) e, cc, cc))
+    (λ e (h : got v next ≡ out at). let z : _≡_ {A = ℕ} 0 1 = cc in let f : ⊥ = omega arith in absurd f)
 
 pub byte-missing : (s : List ℕ) (at place : ℕ) → out place ≡ fetched (formAt 1) s at → (length s ≤ at) × (place ≡ at)
 unfolding fetched formAt ifThere
-byte-missing s at place q = go (ltb at (length s)) refl
-  where
-    go : (t : Bool) → ltb at (length s) ≡ t → (length s ≤ at) × (place ≡ at)
-    go true e =
-        let h : out place ≡ got (byteAt s at) (at + 1) = rw e at q in
-        let z : _≡_ {A = ℕ} 0 1 = cc in
-        let f : ⊥ = omega arith in
-        absurd f
-    go false e = let h : out place ≡ out at = rw e at q in (ltb-false at (length s) e, cc)
+byte-missing s at place =
+    cond-holds (λ o. out place ≡ o → (length s ≤ at) × (place ≡ at)) (ltb at (length s))
+    (λ e (h : out place ≡ got (byteAt s at) (at + 1)). let z : _≡_ {A = ℕ} 0 1 = cc in let f : ⊥ = omega arith in absurd f)
+    (λ e (h : out place ≡ out at). (ltb-false at (length s) e, cc))
 
 pub stands-in : (s : List ℕ) (at : ℕ) → at < length s → byRow (byteAt s at) (opcode (byteAt s at)) s (at + 1) ≡ standing s at
 unfolding standing

@@ -1,6 +1,6 @@
 -- What holds of every operand form: where it reads, where the bytes run out, and its number.
 -- Below: the definitions. Above: the machine's counter, and faults of a fetch. Assumes nothing.
-use Prim.Native.Nat.{ℕ, zero, suc, _+_, _-_, _%_, _≤_, _<_}
+use Prim.Native.Nat.{ℕ, zero, suc, _+_, _-_, _≤_, _<_}
 use native.Mathlib.Omega.{arith}
 use mathlib.Core.Path.{_≡_, refl, sym}
 use mathlib.Core.List.{List}
@@ -9,6 +9,7 @@ use borrow.Author.Tests.{ltb-true, ltb-false, lt-ltb}
 use lib.ListN.{length}
 use lib.Dec.{ltb}
 use lib.IntN.{pos, subℕ}
+use Rattle.basis.proofs.Bools.{cond-holds}
 use Rattle.basis.specs.Integer.{modulo, integerOf, wordOf}
 use Rattle.operand.specs.Bytes.{byteAt, join}
 use Rattle.operand.specs.declared.Operand.the-variants.{Got, Out}
@@ -19,26 +20,16 @@ module _ (s : List ℕ) (at : ℕ) where
   -- what `ifThere` reads, if what follows the test reads so
   first : (o : Fetched) → (at < length s → Lies s at o) → Lies s at (ifThere s at o)
   unfolding ifThere
-  first o h = go (ltb at (length s)) refl
-    where
-      go : (b : Bool) → ltb at (length s) ≡ b → Lies s at (cond b o (out at))
-      go true e = h (ltb-true at (length s) e)
-      go false e =
-          let r = ltb-false at (length s) e in
-          (omega arith, omega arith, r, λ (i : at ≤ length s). omega arith)
+  first o h =
+      cond-holds (Lies s at) (ltb at (length s)) (λ e. h (ltb-true at (length s) e))
+      (λ e. let r = ltb-false at (length s) e in (omega arith, omega arith, r, λ (i : at ≤ length s). omega arith))
 
   -- the second of two bytes, behind a test of its own
   second : (v : ℕ) → at < length s → Lies s at (ifThere s (at + 1) (got v (at + 2)))
   unfolding ifThere
-  second v l = go (ltb (at + 1) (length s)) refl
-    where
-      go : (b : Bool) → ltb (at + 1) (length s) ≡ b → Lies s at (cond b (got v (at + 2)) (out (at + 1)))
-      go true e =
-          let r = ltb-true (at + 1) (length s) e in
-          (omega arith, omega arith, omega arith)
-      go false e =
-          let r = ltb-false (at + 1) (length s) e in
-          (omega arith, omega arith, r, λ (i : at ≤ length s). omega arith)
+  second v l =
+      cond-holds (Lies s at) (ltb (at + 1) (length s)) (λ e. let r = ltb-true (at + 1) (length s) e in (omega arith, omega arith, omega arith))
+      (λ e. let r = ltb-false (at + 1) (length s) e in (omega arith, omega arith, r, λ (i : at ≤ length s). omega arith))
 
   -- one byte, or two
   some : (b : Bool) (v u : ℕ) → at < length s → Lies s at (cond b (got v (at + 1)) (ifThere s (at + 1) (got u (at + 2))))
@@ -98,11 +89,5 @@ unfolding signed integerOf wordOf modulo
 signed-is b h = go (ltb b 128) refl
   where
     go : (t : Bool) → ltb b 128 ≡ t → cond t b (b + 65280) ≡ modulo 65536 (cond t (pos b) (subℕ b 256))
-    go true e =
-        let l = ltb-true b 128 e in
-        let r : b ≡ b % 65536 = omega arith in
-        r
-    go false e =
-        let l = ltb-false b 128 e in
-        let r : b + 65280 ≡ 65536 - suc ((256 - suc b) % 65536) = omega arith in
-        rw (lt-ltb b 256 h) r
+    go true e = omega (arith, ltb-true b 128 e)
+    go false e = rw (lt-ltb b 256 h) (omega (arith, ltb-false b 128 e))

@@ -4,7 +4,7 @@ use Prim.Native.Nat.{ℕ, _+_, _*_, _-_, _/_, _^_, _≤_, _<_}
 use native.Mathlib.Omega.{arith}
 use native.Mathlib.Nat.{le-refl, le-trans, div-mul-le-self, lt-div-mul-add}
 use native.Mathlib.Numerals.{add-one}
-use mathlib.Core.Path.{_≡_, refl, sym, ap, _∙_}
+use mathlib.Core.Path.{_≡_, refl, sym, _∙_}
 use mathlib.Core.Bool.{true, false}
 use mathlib.Core.List.{List, [], _∷_}
 use lib.ListN.{length, getD, drop, drop-of-length-le}
@@ -41,31 +41,20 @@ grows v (b ∷ l) = let more : v ≤ 10 * v + (b - 48) = omega arith in le-trans
 pub fits : (v d most : ℕ) → d ≤ most → v ≤ (most - d) / 10 → 10 * v + d ≤ most
 fits v d most h l = omega (arith, div-mul-le-self (most - d) 10)
 
-over : (v d most : ℕ) → (most - d) / 10 < v → most < 10 * v + d
-over v d most l = omega (arith, lt-div-mul-add {a = most - d} {b = 10} (omega arith))
-
-fitted-value : (v : ℕ) → v < 2 ^ 64 → fitted v ≡ Value v
-unfolding fitted
-fitted-value v h = rw (lt-ltb v (2 ^ 64) h)
-
-fitted-beyond : (v : ℕ) → 2 ^ 64 ≤ v → fitted v ≡ Beyond
-unfolding fitted
-fitted-beyond v h = rw (le-ltb v (2 ^ 64) h)
-
 module _ (s : List ℕ) (i n v : ℕ) (e : n ≡ valueFrom v (drop i s)) where
   pub value-ends : length s ≤ i → v < 2 ^ 64 → Value v ≡ fitted n
-  unfolding valueFrom
-  value-ends h l = sym (ap fitted (e ∙ rw (drop-of-length-le s h)) ∙ fitted-value v l)
+  unfolding valueFrom fitted
+  value-ends h l = rw (e, drop-of-length-le s h, lt-ltb v (2 ^ 64) l)
 
   pub value-goes : (d : ℕ) → i < length s → d ≡ getD s i 0 - 48 → n ≡ valueFrom (10 * v + d) (drop (i + 1) s)
   unfolding valueFrom
   value-goes d h q = e ∙ rw (drop-cons s i 0 h, q, add-one i)
 
   pub value-stops : (d : ℕ) → i < length s → d ≡ getD s i 0 - 48 → (18446744073709551615 - d) / 10 < v → Beyond ≡ fitted n
+  unfolding fitted
   value-stops d h q l =
-      let m : 18446744073709551615 < 10 * v + d = over v d 18446744073709551615 l in
       let g : 10 * v + d ≤ n = rw (value-goes d h q) (grows (10 * v + d) (drop (i + 1) s)) in
-      sym (fitted-beyond n (omega arith))
+      rw (le-ltb n (2 ^ 64) (omega (arith, lt-div-mul-add {a = 18446744073709551615 - d} {b = 10} (omega arith))))
 
 -- ---- the number
 

@@ -31,31 +31,22 @@ getD-listOf f i (suc n) zero l = ap f (sym (add-zero i))
 getD-listOf f i (suc n) (suc k) l = getD-listOf f (suc i) n k (le-of-suc-le-suc l) ∙ ap f (suc-add i k ∙ sym (add-suc i k))
 
 getD-past : (xs ys : List ℕ) (i : ℕ) → length xs ≤ i → getD (xs ++ ys) i 0 ≡ getD ys (i - length xs) 0
-getD-past xs ys i l =
-    let e : i ≡ length xs + (i - length xs) = omega arith in
-    ap (λ (k : ℕ). getD (xs ++ ys) k 0) e ∙ getD-append-add xs ys (i - length xs) 0
+getD-past xs ys i l = let e : length xs + (i - length xs) ≡ i = omega arith in rw e at (getD-append-add xs ys (i - length xs) 0)
 
 -- ---- copying, one byte more at each turn of the loop, and all of them
 
 pub copy-more : (s d t : List ℕ) (j : ℕ) → t ≡ paste d 0 s j → j < length s → length s ≤ length d → set t j (getD s j 0) ≡ paste d 0 s (j + 1)
 copy-more s d t j h l r =
     let e : j ≡ 0 + j = omega arith in
-    ap (λ (t : List ℕ). set t j (getD s j 0)) h
-    ∙ ap (λ (k : ℕ). set (paste d 0 s j) k (getD s j 0)) e
-    ∙ paste-suc d 0 s j 0 (omega arith) l
-    ∙ ap (λ (k : ℕ). paste d 0 s k) (sym (add-one j))
+    rw (add-one j, h) (ap (λ (k : ℕ). set (paste d 0 s j) k (getD s j 0)) e ∙ paste-suc d 0 s j 0 (omega arith) l)
 
 pub copy-all : (s d : List ℕ) (n : ℕ) → n ≡ length s → paste d 0 s n ≡ s ++ drop (length s) d
-copy-all s d n e =
-    let z : 0 + n ≡ length s = omega arith in
-    ap (λ (t : List ℕ). t ++ drop (0 + n) d) (take-all n s (omega arith)) ∙ ap (λ (k : ℕ). s ++ drop k d) z
+copy-all s d n e = let z : 0 + n ≡ length s = omega arith in rw (take-all n s (omega arith), z)
 
 -- ---- the other byte of a word
 
 pub halves : (i : ℕ) → (i % 2 ≡ 0) ⊎ (i % 2 ≡ 1)
-halves i =
-    let l : i % 2 ≤ 1 = omega arith in
-    ⊎-elim (λ (e : i % 2 ≡ 1). inr e) (λ (m : i % 2 < 1). inl (omega arith)) (eq-or-lt-of-le l)
+halves i = let l : i % 2 ≤ 1 = omega arith in ⊎-elim inr (λ (m : i % 2 < 1). inl (omega arith)) (eq-or-lt-of-le l)
 
 module _ (i : ℕ) where
   pub other-even : i % 2 ≡ 0 → other i ≡ i + 1
@@ -75,9 +66,7 @@ module _ (p : ℕ → Bool) (s out : List ℕ) where
 
   pub getD-swap : (i : ℕ) → i < length out → getD (swapAt p s out) i 0 ≡ swapByte p s out i
   unfolding swapAt
-  getD-swap i l =
-      let e : 0 + i ≡ i = omega arith in
-      getD-listOf (swapByte p s out) 0 (length out) i l ∙ ap (swapByte p s out) e
+  getD-swap i l = let e : 0 + i ≡ i = omega arith in getD-listOf (swapByte p s out) 0 (length out) i l ∙ rw e
 
   -- byte i where its word is written, and where it is not
   pub swap-in : (i : ℕ) → p (i / 2) ≡ true → swapByte p s out i ≡ byteAt s (other i)
@@ -88,16 +77,19 @@ module _ (p : ℕ → Bool) (s out : List ℕ) where
   unfolding swapByte
   swap-out i h = rw h refl
 
+  -- a list that holds these bytes
+  is-swap : (l : List ℕ) → length l ≡ length out → ((i : ℕ) → i < length out → getD l i 0 ≡ swapByte p s out i) → l ≡ swapAt p s out
+  is-swap l n h =
+      let m = length-swap in
+      ext-getD 0 l (swapAt p s out) (n ∙ sym m) (λ (i : ℕ) (b : i < length l). h i (omega arith) ∙ sym (getD-swap i (omega arith)))
+
 -- rules that name the same words write the same
 pub swap-same : (p q : ℕ → Bool) (s out : List ℕ) → ((w : ℕ) → p w ≡ q w) → swapAt p s out ≡ swapAt q s out
 swap-same p q s out h = λ j. swapAt (λ w. h w j) s out
 
 -- no word written
 pub swap-none : (p : ℕ → Bool) (s out : List ℕ) → ((w : ℕ) → p w ≡ false) → swapAt p s out ≡ out
-swap-none p s out h =
-    ext-getD 0 (swapAt p s out) out (length-swap p s out)
-    (λ (i : ℕ) (l : i < length (swapAt p s out)).
-    getD-swap p s out i (omega (arith, length-swap p s out)) ∙ swap-out p s out i (h (i / 2)))
+swap-none p s out h = sym (is-swap p s out out refl (λ i l. sym (swap-out p s out i (h (i / 2)))))
 
 cond-or : (a b : Bool) (x y : ℕ) → cond b x (cond a x y) ≡ cond (a || b) x y
 cond-or true true x y = refl
@@ -109,14 +101,9 @@ pub swap-join : (p q : ℕ → Bool) (s out : List ℕ) → swapAt q s (swapAt p
 unfolding swapByte
 swap-join p q s out =
     let n = length-swap p s out in
-    let m = length-swap q s (swapAt p s out) in
-    let e = length-swap (λ w. p w || q w) s out in
-    ext-getD 0 (swapAt q s (swapAt p s out)) (swapAt (λ w. p w || q w) s out) (m ∙ n ∙ sym e)
-    (λ (i : ℕ) (l : i < length (swapAt q s (swapAt p s out))).
-    getD-swap q s (swapAt p s out) i (omega arith)
-    ∙ ap (λ (y : ℕ). cond (q (i / 2)) (byteAt s (other i)) y) (getD-swap p s out i (omega arith))
-    ∙ cond-or (p (i / 2)) (q (i / 2)) (byteAt s (other i)) (byteAt out i)
-    ∙ sym (getD-swap (λ w. p w || q w) s out i (omega arith)))
+    is-swap (λ w. p w || q w) s out (swapAt q s (swapAt p s out)) (length-swap q s (swapAt p s out) ∙ n)
+    (λ (i : ℕ) (l : i < length out). getD-swap q s (swapAt p s out) i (omega arith)
+    ∙ rw (getD-swap p s out i l) (cond-or (p (i / 2)) (q (i / 2)) (byteAt s (other i)) (byteAt out i)))
 
 -- ---- one word, as the two stores of the code
 
@@ -135,14 +122,8 @@ module _ (s out : List ℕ) (w : ℕ) (r : 2 * w + 1 < length out) where
   both : (i : ℕ) → w ≡ i / 2 → getD pair i 0 ≡ byteAt s (other i)
   both i e =
       ⊎-elim
-      (λ (z : i % 2 ≡ 0).
-      let a : i ≡ 2 * w = omega arith in
-      let b : i + 1 ≡ 2 * w + 1 = omega arith in
-      ap (λ (k : ℕ). getD pair k 0) a ∙ low ∙ ap (byteAt s) (sym (other-even i z ∙ b)))
-      (λ (z : i % 2 ≡ 1).
-      let a : i ≡ 2 * w + 1 = omega arith in
-      let b : i - 1 ≡ 2 * w = omega arith in
-      ap (λ (k : ℕ). getD pair k 0) a ∙ high ∙ ap (byteAt s) (sym (other-odd i z ∙ b)))
+      (λ (z : i % 2 ≡ 0). let a : i ≡ 2 * w = omega arith in rw (other-even i z, a) low)
+      (λ (z : i % 2 ≡ 1). let b : i - 1 ≡ 2 * w = omega arith in let a : i ≡ 2 * w + 1 = omega arith in rw (other-odd i z, b, a) high)
       (halves i)
 
   neither : (i : ℕ) → (w ≡ i / 2 → ⊥) → getD pair i 0 ≡ byteAt out i
@@ -154,14 +135,8 @@ module _ (s out : List ℕ) (w : ℕ) (r : 2 * w + 1 < length out) where
   at-byte i true h = both i (eqb-true w (i / 2) h) ∙ sym (swap-in (eqb w) s out i h)
   at-byte i false h = neither i (eqb-false w (i / 2) h) ∙ sym (swap-out (eqb w) s out i h)
 
-  length-pair : length pair ≡ length out
-  length-pair = simp length-set
-
   pub swap-word : pair ≡ swapAt (eqb w) s out
-  swap-word =
-      ext-getD 0 pair (swapAt (eqb w) s out) (length-pair ∙ sym (length-swap (eqb w) s out))
-      (λ (i : ℕ) (l : i < length pair).
-      at-byte i (eqb w (i / 2)) refl ∙ sym (getD-swap (eqb w) s out i (omega (arith, length-pair))))
+  swap-word = is-swap (eqb w) s out pair (simp length-set) (λ i l. at-byte i (eqb w (i / 2)) refl)
 
 -- ---- words of the first part of a list leave the rest
 
@@ -170,23 +145,14 @@ module _ (p : ℕ → Bool) (s d : List ℕ) (h : (i : ℕ) → length s ≤ i �
   unfolding swapByte
   front-byte i l (yes m) =
       let n = length-swap p s s in
-      swap-out p s (s ++ d) i (h i m)
-      ∙ getD-past s d i m
-      ∙ ap (λ (k : ℕ). getD d (i - k) 0) (sym n)
-      ∙ sym (getD-past (swapAt p s s) d i (omega arith))
+      swap-out p s (s ++ d) i (h i m) ∙ rw (getD-past s d i m, getD-past (swapAt p s s) d i (omega arith), n)
   front-byte i l (no m) =
       let n = length-swap p s s in
       let g : i < length s = omega arith in
-      ap (λ (y : ℕ). cond (p (i / 2)) (byteAt s (other i)) y) (List·getD-append s d 0 i g)
-      ∙ sym (getD-swap p s s i g)
-      ∙ sym (List·getD-append (swapAt p s s) d 0 i (omega arith))
+      rw (List·getD-append (swapAt p s s) d 0 i (omega arith), getD-swap p s s i g, List·getD-append s d 0 i g)
 
   pub swap-front : swapAt p s (s ++ d) ≡ swapAt p s s ++ d
   swap-front =
       let n = length-swap p s s in
-      let m = length-swap p s (s ++ d) in
       let a = length-append s d in
-      let b = length-append (swapAt p s s) d in
-      ext-getD 0 (swapAt p s (s ++ d)) (swapAt p s s ++ d) (omega arith)
-      (λ (i : ℕ) (l : i < length (swapAt p s (s ++ d))).
-      getD-swap p s (s ++ d) i (omega arith) ∙ front-byte i (omega arith) (decLe (length s) i))
+      sym (is-swap p s (s ++ d) (swapAt p s s ++ d) (omega (arith, length-append (swapAt p s s) d)) (λ i l. sym (front-byte i l (decLe (length s) i))))

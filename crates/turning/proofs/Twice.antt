@@ -3,7 +3,7 @@
 use Prim.Native.Nat.{ℕ, zero, suc, _+_, _-_, _*_, _/_, _%_, _≤_, _<_}
 use native.Mathlib.Decide.{decLe}
 use native.Mathlib.Omega.{arith}
-use mathlib.Core.Path.{_≡_, refl, sym, ap, _∙_, subst}
+use mathlib.Core.Path.{_≡_, refl, sym, ap, _∙_}
 use mathlib.Core.Logic.{⊎-elim}
 use mathlib.Core.List.{List}
 use mathlib.Core.Bool.{Bool, true, false, not, _||_, _&&_, or-true}
@@ -12,16 +12,16 @@ use lib.ListN.{length, List·getD-eq-default}
 use lib.Seq.{ext-getD}
 use lib.Dec.{eqb}
 use Rattle.basis.specs.Bools.{inside}
-use Rattle.basis.proofs.Bools.{both-true, or-cases}
+use Rattle.basis.proofs.Bools.{both-true, inside-holds, or-cases}
 use Rattle.operand.specs.Bytes.{byteAt, wordBy}
 use Rattle.segment.specs.Head.{words, least, word, dict, reloc, pool, real, count, entry, datasize, exitic, start, sexBytes, sexOk}
 use Rattle.segment.specs.Judge.{headChecks, routineChecks, routinesFrom, checks, judged}
-use Rattle.basis.specs.Checks.{passed, ruling}
+use Rattle.basis.specs.Checks.{passed}
 use Rattle.segment.proofs.Laws.{Header, all-good}
-use Rattle.turning.specs.Turn.{frame, framed, position, other, swapByte, swapAt, turned}
+use Rattle.turning.specs.Turn.{framed, position, other, swapByte, swapAt, turned}
 use Rattle.turning.specs.Twin.{Once, SameRoutine, Twins}
 use Rattle.turning.proofs.Swaps.{halves, other-even, other-odd, length-swap, getD-swap, swap-in, swap-out, swap-same, swap-join}
-use Rattle.turning.proofs.Positions.{holds-inside, frame-exit, frame-data, framed-has, entry-in, position-in}
+use Rattle.turning.proofs.Positions.{near-frame, framed-has, entry-in, position-in}
 
 -- ---- once, even if two rules name it
 
@@ -41,16 +41,8 @@ sex-flips : (a b : ℕ) → sexBytes a b ≡ true → (sexBytes b a ≡ true) ×
 unfolding sexBytes
 sex-flips a b h =
     or-cases (eqb a 1 && eqb b 0) (eqb a 0 && eqb b 1) h
-    (λ (p : (eqb a 1 && eqb b 0) ≡ true).
-    let q = both-true _ _ p in
-    let x = eqb-true a 1 (q .0) in
-    let y = eqb-true b 0 (q .1) in
-    (rw (x, y) refl, rw (x, y) refl))
-    (λ (p : (eqb a 0 && eqb b 1) ≡ true).
-    let q = both-true _ _ p in
-    let x = eqb-true a 0 (q .0) in
-    let y = eqb-true b 1 (q .1) in
-    (rw (x, y) refl, rw (x, y) refl))
+    (λ p. let q = both-true _ _ p in rw (eqb-true a 1 (q .0), eqb-true b 0 (q .1)) (refl, refl))
+    (λ p. let q = both-true _ _ p in rw (eqb-true a 0 (q .0), eqb-true b 1 (q .1)) (refl, refl))
 
 -- ---- checks and word positions, routine by routine
 
@@ -58,36 +50,20 @@ same-from : (t s : List ℕ) (n j : ℕ) → ((k : ℕ) → j ≤ k → k < j + 
 unfolding routinesFrom
 same-from t s zero j h = refl
 same-from t s (suc n) j h =
-    let e = h j (omega arith) (omega arith) in
-    let r = same-from t s n (j + 1) (λ (k : ℕ) (l : j + 1 ≤ k) (m : k < j + 1 + n). h k (omega arith) (omega arith)) in
-    rw (e, r) refl
+    rw (h j (omega arith) (omega arith), same-from t s n (j + 1) (λ (k : ℕ) (l : j + 1 ≤ k) (m : k < j + 1 + n). h k (omega arith) (omega arith)))
 
 same-framed : (t s : List ℕ) (w n : ℕ) → ((k : ℕ) → k ≤ n → entry t k ≡ entry s k) → framed t n w ≡ framed s n w
 unfolding framed
 same-framed t s w zero h = refl
-same-framed t s w (suc n) h =
-    let e = h (suc n) (omega arith) in
-    let r = same-framed t s w n (λ (k : ℕ) (m : k ≤ n). h k (omega arith)) in
-    rw (e, r) refl
+same-framed t s w (suc n) h = rw (h (suc n) (omega arith), same-framed t s w n (λ (k : ℕ) (m : k ≤ n). h k (omega arith)))
 
--- ---- the other byte lies in the same word, inside the segment, and its other byte is the first
+-- ---- the other byte lies in the same word, and its other byte is the first
 
-record Mate (i n : ℕ) : Type 0 where
-  half : other i / 2 ≡ i / 2
-  within : other i < n
-  back : other (other i) ≡ i
-
-mate : (i n : ℕ) → i < n → n % 2 ≡ 0 → Mate i n
-mate i n l r =
+mate : (i : ℕ) → (other i / 2 ≡ i / 2) × (other (other i) ≡ i)
+mate i =
     ⊎-elim
-    (λ (e : i % 2 ≡ 0).
-    let o = other-even i e in
-    let b = other-odd (i + 1) (omega arith) in
-    record { half = omega arith; within = omega arith; back = rw o (b ∙ omega arith) })
-    (λ (e : i % 2 ≡ 1).
-    let o = other-odd i e in
-    let b = other-even (i - 1) (omega arith) in
-    record { half = omega arith; within = omega arith; back = rw o (b ∙ omega arith) })
+    (λ (e : i % 2 ≡ 0). let o = other-even i e in (omega arith, rw o (omega (arith, other-odd (i + 1) (omega arith)))))
+    (λ (e : i % 2 ≡ 1). let o = other-odd i e in (omega arith, rw o (omega (arith, other-even (i - 1) (omega arith)))))
     (halves i)
 
 -- ---- an accepted segment and its turned one
@@ -104,29 +80,24 @@ module _ (s : List ℕ) (ok : judged s ≡ passed) where
   unfolding turned
   turned-at i l = getD-swap (position s) s s i l
 
-  low-byte : (w : ℕ) → position s w ≡ true → byteAt (turned s) (2 * w) ≡ byteAt s (2 * w + 1)
-  low-byte w h =
+  -- at a word position stands the other byte of the word
+  moved-byte : (i : ℕ) → position s (i / 2) ≡ true → byteAt (turned s) i ≡ byteAt s (other i)
+  moved-byte i h =
       let g = good in
-      let m = position-in s ok w h in
-      let e : w ≡ 2 * w / 2 = omega arith in
-      turned-at (2 * w) (omega arith)
-      ∙ swap-in (position s) s s (2 * w) (subst (λ (v : ℕ). position s v ≡ true) e h)
-      ∙ ap (byteAt s) (other-even (2 * w) (omega arith))
+      let m = position-in s ok (i / 2) h in
+      turned-at i (omega arith) ∙ swap-in (position s) s s i h
+
+  low-byte : (w : ℕ) → position s w ≡ true → byteAt (turned s) (2 * w) ≡ byteAt s (2 * w + 1)
+  low-byte w h = let e : 2 * w / 2 ≡ w = omega arith in moved-byte (2 * w) (rw e h) ∙ ap (byteAt s) (other-even (2 * w) (omega arith))
 
   high-byte : (w : ℕ) → position s w ≡ true → byteAt (turned s) (2 * w + 1) ≡ byteAt s (2 * w)
   high-byte w h =
-      let g = good in
-      let m = position-in s ok w h in
-      let e : w ≡ (2 * w + 1) / 2 = omega arith in
+      let e : (2 * w + 1) / 2 ≡ w = omega arith in
       let z : 2 * w + 1 - 1 ≡ 2 * w = omega arith in
-      turned-at (2 * w + 1) (omega arith)
-      ∙ swap-in (position s) s s (2 * w + 1) (subst (λ (v : ℕ). position s v ≡ true) e h)
-      ∙ ap (byteAt s) (other-odd (2 * w + 1) (omega arith) ∙ z)
+      moved-byte (2 * w + 1) (rw e h) ∙ ap (byteAt s) (other-odd (2 * w + 1) (omega arith) ∙ z)
 
   other-byte′ : (i : ℕ) → position s (i / 2) ≡ false → Dec (length s ≤ i) → byteAt (turned s) i ≡ byteAt s i
-  other-byte′ i h (yes l) =
-      let n = length-turned in
-      List·getD-eq-default (turned s) 0 (omega arith) ∙ sym (List·getD-eq-default s 0 l)
+  other-byte′ i h (yes l) = let n = length-turned in List·getD-eq-default (turned s) 0 (omega arith) ∙ sym (List·getD-eq-default s 0 l)
   other-byte′ i h (no l) = turned-at i (omega arith) ∙ swap-out (position s) s s i h
 
   other-byte : (i : ℕ) → position s (i / 2) ≡ false → byteAt (turned s) i ≡ byteAt s i
@@ -166,27 +137,14 @@ module _ (s : List ℕ) (ok : judged s ≡ passed) where
   unfolding pool position inside
   same-pool = same-word 7 refl
 
-  same-real : real (turned s) ≡ real s
-  unfolding real position inside
-  same-real = same-word 8 refl
-
-  same-9 : word (turned s) 9 ≡ word s 9
-  unfolding position inside
-  same-9 = same-word 9 refl
-
-  same-10 : word (turned s) 10 ≡ word s 10
-  unfolding position inside
-  same-10 = same-word 10 refl
-
   -- the words D to D + n, and the two of each routine
   in-dict : (k : ℕ) → k ≤ count s → position s (dict s + k) ≡ true
   unfolding position
-  in-dict k l =
-      simp (holds-inside (dict s) (dict s + count s + 1) (dict s + k) (omega arith) (omega arith), or-true)
+  in-dict k l = simp (inside-holds (dict s) (dict s + count s + 1) (dict s + k) (omega arith) (omega arith), or-true)
 
-  in-frame : (w k : ℕ) → 1 ≤ k → k ≤ count s → frame (entry s k) w ≡ true → position s w ≡ true
+  in-frame : (w k : ℕ) → 1 ≤ k → k ≤ count s → w ≤ entry s k → entry s k ≤ w + 1 → position s w ≡ true
   unfolding position
-  in-frame w k l r h = simp (framed-has s w (count s) k l r h, or-true)
+  in-frame w k l r a b = simp (framed-has s w (count s) k l r (near-frame (entry s k) w a b), or-true)
 
   same-entry : (k : ℕ) → k ≤ count s → entry (turned s) k ≡ entry s k
   unfolding entry
@@ -196,26 +154,22 @@ module _ (s : List ℕ) (ok : judged s ≡ passed) where
   unfolding count
   same-count =
       let e : dict s + 0 ≡ dict s = omega arith in
-      rw same-dict (same-word (dict s) (subst (λ (w : ℕ). position s w ≡ true) e (in-dict 0 (omega arith))))
+      rw same-dict (same-word (dict s) (rw e at (in-dict 0 (omega arith))))
 
-  same-datasize : (k : ℕ) → 1 ≤ k → k ≤ count s → datasize (turned s) k ≡ datasize s k
-  unfolding datasize
-  same-datasize k l r = rw (same-entry k r) (same-word (entry s k) (in-frame (entry s k) k l r (frame-data (entry s k))))
+  module _ (k : ℕ) (l : 1 ≤ k) (r : k ≤ count s) where
+    same-datasize : datasize (turned s) k ≡ datasize s k
+    unfolding datasize
+    same-datasize = rw (same-entry k r) (same-word (entry s k) (in-frame (entry s k) k l r (omega arith) (omega arith)))
 
-  same-exitic : (k : ℕ) → 1 ≤ k → k ≤ count s → exitic (turned s) k ≡ exitic s k
-  unfolding exitic
-  same-exitic k l r =
-      let i = entry-in s ok k l r in
-      rw (same-entry k r) (same-word (entry s k - 1) (in-frame (entry s k - 1) k l r (frame-exit (entry s k) (omega arith))))
+    same-exitic : exitic (turned s) k ≡ exitic s k
+    unfolding exitic
+    same-exitic =
+        let i = entry-in s ok k l r in
+        rw (same-entry k r) (same-word (entry s k - 1) (in-frame (entry s k - 1) k l r (omega arith) (omega arith)))
 
-  same-routine : (k : ℕ) → 1 ≤ k → k ≤ count s → SameRoutine s (turned s) k
-  unfolding start
-  same-routine k l r = record {
-    entries = same-entry k r;
-    datasizes = same-datasize k l r;
-    exitics = same-exitic k l r;
-    starts = ap (λ (e : ℕ). 2 * (e + 1)) (same-entry k r);
-  }
+    same-routine : SameRoutine s (turned s) k
+    unfolding start
+    same-routine = record { entries = same-entry k r; datasizes = same-datasize; exitics = same-exitic; starts = rw (same-entry k r) }
 
   same-position : (w : ℕ) → position (turned s) w ≡ position s w
   unfolding position
@@ -228,43 +182,31 @@ module _ (s : List ℕ) (ok : judged s ≡ passed) where
 
   same-three : (k : ℕ) → 1 ≤ k → k < 1 + count s → routineChecks (turned s) k ≡ routineChecks s k
   unfolding routineChecks
-  same-three k l r =
-      rw (same-entry k (omega arith), same-datasize k l (omega arith), same-exitic k l (omega arith), same-words) refl
-
-  pub same-checks : checks (turned s) ≡ checks s
-  unfolding checks
-  same-checks = rw (same-head, same-count, same-from (turned s) s (count s) 1 same-three) refl
+  same-three k l r = rw (same-entry k (omega arith), same-datasize k l (omega arith), same-exitic k l (omega arith), same-words)
 
   same-ruling : judged (turned s) ≡ judged s
-  unfolding judged
-  same-ruling = ap ruling same-checks
+  unfolding judged checks
+  same-ruling = rw (same-head, same-count, same-from (turned s) s (count s) 1 same-three)
 
   -- turned twice, it is the segment
-  turned-back : (i : ℕ) → i < length s → (b : Bool) → position s (i / 2) ≡ b → swapByte (position s) (turned s) (turned s) i ≡ byteAt s i
-  turned-back i l true h =
-      let g = good in
-      let m = mate i (length s) l (omega arith) in
-      swap-in (position s) (turned s) (turned s) i h
-      ∙ turned-at (other i) (m .within)
-      ∙ swap-in (position s) s s (other i) (subst (λ (v : ℕ). position s v ≡ true) (sym (m .half)) h)
-      ∙ ap (byteAt s) (m .back)
-  turned-back i l false h = swap-out (position s) (turned s) (turned s) i h ∙ other-byte i h
+  turned-back : (i : ℕ) (b : Bool) → position s (i / 2) ≡ b → swapByte (position s) (turned s) (turned s) i ≡ byteAt s i
+  turned-back i true h =
+      let m = mate i in
+      swap-in (position s) (turned s) (turned s) i h ∙ moved-byte (other i) (rw (m .0) h) ∙ ap (byteAt s) (m .1)
+  turned-back i false h = swap-out (position s) (turned s) (turned s) i h ∙ other-byte i h
 
-  back-at : (i : ℕ) → i < length s → byteAt (swapAt (position s) (turned s) (turned s)) i ≡ byteAt s i
-  back-at i l =
-      let n = length-turned in
-      getD-swap (position s) (turned s) (turned s) i (omega arith) ∙ turned-back i l (position s (i / 2)) refl
-
-  pub turned-twice : turned (turned s) ≡ s
+  turned-twice : turned (turned s) ≡ s
   unfolding turned
   turned-twice =
       let n = length-turned in
       let m = length-swap (position s) (turned s) (turned s) in
       swap-same (position (turned s)) (position s) (turned s) (turned s) same-position
       ∙ ext-getD 0 (swapAt (position s) (turned s) (turned s)) s (m ∙ n)
-      (λ (i : ℕ) (l : i < length (swapAt (position s) (turned s) (turned s))). back-at i (omega arith))
+      (λ (i : ℕ) (l : i < length (swapAt (position s) (turned s) (turned s))).
+      getD-swap (position s) (turned s) (turned s) i (omega arith) ∙ turned-back i (position s (i / 2)) refl)
 
 pub twins : Twins
+unfolding real position inside
 twins s ok none = record {
   lengths = length-turned s ok;
   lows = low-byte s ok;
@@ -274,9 +216,9 @@ twins s ok none = record {
   dicts = same-dict s ok;
   relocs = same-reloc s ok;
   pools = same-pool s ok;
-  reals = same-real s ok;
-  reserved-9 = same-9 s ok;
-  reserved-10 = same-10 s ok;
+  reals = same-word s ok 8 refl;
+  reserved-9 = same-word s ok 9 refl;
+  reserved-10 = same-word s ok 10 refl;
   counts = same-count s ok;
   routines = same-routine s ok;
   positions = same-position s ok;

@@ -5,55 +5,16 @@ use borrow.Author.Needs.{needs}
 use Rattle.bounds.proofs.code_of.Statement.{statement}
 use Rattle.bounds.proofs.code_of.Tie as tie
 
-slice-aggregate-result : tie.Need-slice-aggregate-result
-slice-aggregate-result c = search needs
-
 returns : tie.Need-returns
 returns c = let a = c .before .before .args in laws.part-none (a .store .now) (a .start) (a .len) (omega arith)
 
-sub-if2 : tie.Need-sub-if2
-sub-if2 c = search needs
-
-sub-result : tie.Need-sub-result
-sub-result c = search needs
-
-part-result-start : tie.Need-part-result-start
-part-result-start c = search needs
-
-part-result-end : tie.Need-part-result-end
-part-result-end c = search needs
-
 returns-2 : tie.Need-returns-2
 returns-2 c = let a = c .before .before .before .args in laws.part-short (a .store .now) (a .start) (a .len) (omega arith)
-
-add-end : tie.Need-add-end
-add-end c = search needs
-
-sub-result-2 : tie.Need-sub-result-2
-sub-result-2 c = search needs
-
-part-result-start-2 : tie.Need-part-result-start-2
-part-result-start-2 c = search needs
-
-part-result-end-2 : tie.Need-part-result-end-2
-part-result-end-2 c = search needs
 
 returns-3 : tie.Need-returns-3
 returns-3 c = let a = c .before .before .before .args in laws.part-full (a .store .now) (a .start) (a .len)
 
 pub code-of-spec : {M : Type 1} → statement M
 code-of-spec =
-    tie.close
-    (tie.spec
-    slice-aggregate-result
-    returns
-    sub-if2
-    sub-result
-    part-result-start
-    part-result-end
-    returns-2
-    add-end
-    sub-result-2
-    part-result-start-2
-    part-result-end-2
-    returns-3)
+    tie.close (tie.spec (search needs) returns (search needs) (search needs) (search needs) (search needs) returns-2 (search needs) (search needs) (search needs)
+    (search needs) returns-3)

@@ -4,13 +4,5 @@ use Rattle.basis.specs.Bools.{inside}
 use Rattle.bounds.proofs.within.Statement.{statement}
 use Rattle.bounds.proofs.within.Tie as tie
 
-returns : tie.Need-returns
-unfolding inside
-returns c = simp (le-leb _ _ (c .if1 .taken))
-
-returns-2 : tie.Need-returns-2
-unfolding inside
-returns-2 c = simp (lt-leb _ _ (c .if1 .left))
-
 pub within-spec : {M : Type 1} → statement M
-within-spec = tie.close (tie.spec returns returns-2)
+within-spec = tie.close (tie.spec (λ c. unfold inside in simp (le-leb _ _ (c .if1 .taken))) (λ c. unfold inside in simp (lt-leb _ _ (c .if1 .left))))

@@ -6,11 +6,8 @@ use Rattle.segment.specs.Judge.{rulingOf}
 use Rattle.checks.proofs.accepts.Statement.{statement}
 use Rattle.checks.proofs.accepts.Tie as tie
 
-returns : tie.Need-returns
-returns c = sym (ap isPassed (sym (c .before .before .judge .ensures) ∙ ap rulingOf (c .enum-told .given .1)))
-
-returns-2 : tie.Need-returns-2
-returns-2 c = sym (ap isPassed (sym (c .before .before .judge .ensures) ∙ ap rulingOf (c .enum-told2 .given .1)))
-
 pub accepts-spec : {M : Type 1} → statement M
-accepts-spec = tie.close (tie.spec (λ c κs. search needs) (λ c. search needs) (λ c. search needs) returns returns-2)
+accepts-spec =
+    tie.close (tie.spec (search needs) (search needs) (search needs)
+    (λ c. sym (ap isPassed (sym (c .before .before .judge .ensures) ∙ ap rulingOf (c .enum-told .given .1))))
+    (λ c. sym (ap isPassed (sym (c .before .before .judge .ensures) ∙ ap rulingOf (c .enum-told2 .given .1)))))

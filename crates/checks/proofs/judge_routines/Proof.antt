@@ -5,7 +5,6 @@ use Prim.Native.Nat.{_+_, _-_, _≤_}
 use borrow.Author.Needs.{needs}
 use borrow.Author.Tests.{not-true, not-false}
 use native.Mathlib.Omega.{arith}
-use denote.Ref.{now}
 use Rattle.segment.specs.Head.{count}
 use Rattle.segment.specs.declared.Segment.{Segment}
 use Rattle.basis.specs.Checks.{ruling}
@@ -22,49 +21,34 @@ abbrev μ-loop : tie.MeasureT-loop
 
 loop-holds : tie.Need-loop-holds Inv-loop μ-loop
 loop-holds c =
-    let e : c .before .before .head .result .count - 0 ≡ count (now (c .before .before .before .before .args .seg)) = omega (arith, ap (λ (h : Segment). h .count) (c .before .before .head .ensures)) in
+    let head = c .before .before in
+    let e : head .head .result .count - 0 ≡ count (head .before .before .args .seg .now) = omega (arith, ap (λ (h : Segment). h .count) (head .head .ensures)) in
     (omega arith, rw e)
 
 -- word D+k lies inside, since D+n does
 routine-passes-requires : tie.Need-routine-passes-requires Inv-loop μ-loop
 routine-passes-requires c κs =
-    let g = head-good (now (c .before .before .before .before .before .before .args .seg)) (c .before .before .before .before .before .before .pre) in
-    let h = c .before .before .before .before .head .ensures in (
-      ap (λ (h : Segment). h .least) h,
-      ap (λ (h : Segment). h .words) h,
-      ap (λ (h : Segment). h .dict) h,
-      omega (arith, g .room, ap (λ (h : Segment). h .words) h, ap (λ (h : Segment). h .dict) h, ap (λ (h : Segment). h .count) h, c .loop-test .taken),
-    )
+    let head = c .before .before .before .before in
+    let start = head .before .before in
+    let w = ap (λ (h : Segment). h .words) (head .head .ensures) in
+    let d = ap (λ (h : Segment). h .dict) (head .head .ensures) in
+    let room = head-good (start .args .seg .now) (start .pre) .room in
+    (ap (λ (h : Segment). h .least) (head .head .ensures), w, d, omega (arith, room, w, d, ap (λ (h : Segment). h .count) (head .head .ensures), c .loop-test .taken))
 
 returns : tie.Need-returns Inv-loop μ-loop
 returns c =
+    let passes = c .before .before in
+    let test = passes .before in
     c .judge-routine .ensures
-    ∙ sym (c .before .before .before .before .loop .inv .1 ∙ judge-stop _ _ _ (c .before .before .before .loop-test .taken) (sym (c .before .before .routine-passes .ensures) ∙ not-true _ (c .before .if1 .taken)))
+    ∙ sym (test .before .loop .inv .1 ∙ judge-stop _ _ _ (test .loop-test .taken) (sym (passes .routine-passes .ensures) ∙ not-true _ (c .before .if1 .taken)))
 
 loop-again : tie.Need-loop-again Inv-loop μ-loop
-loop-again c = (
-  omega arith,
-  c .before .before .before .loop .inv .1 ∙ judge-step _ _ _ (c .before .before .loop-test .taken) (sym (c .before .routine-passes .ensures) ∙ not-false _ (c .if1 .left)),
-)
-
-returns-2 : tie.Need-returns-2 Inv-loop μ-loop
-returns-2 c = sym (c .before .loop .inv .1 ∙ judge-done _ _ _ (c .loop-test .left))
+loop-again c =
+    let test = c .before .before in
+    (omega arith, test .before .loop .inv .1 ∙ judge-step _ _ _ (test .loop-test .taken) (sym (c .before .routine-passes .ensures) ∙ not-false _ (c .if1 .left)))
 
 pub judge-routines-spec : {M : Type 1} → statement M
 judge-routines-spec =
-    tie.close
-    (tie.spec
-    Inv-loop
-    μ-loop
-    (λ c κs. search needs)
-    (λ c. search needs)
-    (λ c. search needs)
-    loop-holds
-    (λ c. search needs)
-    routine-passes-requires
-    (λ c. search needs)
-    (λ c κs. search needs)
-    returns
-    (λ c. search needs)
-    loop-again
-    returns-2)
+    tie.close (tie.spec Inv-loop μ-loop (search needs) (search needs) (search needs) loop-holds (search needs) routine-passes-requires (search needs) (search needs)
+    returns (search needs) loop-again
+    (λ c. sym (c .before .loop .inv .1 ∙ judge-done _ _ _ (c .loop-test .left))))

@@ -3,8 +3,5 @@ use borrow.Author.Needs.{needs}
 use Rattle.checks.proofs.pool_ok.Statement.{statement}
 use Rattle.checks.proofs.pool_ok.Tie as tie
 
-returns : tie.Need-returns
-returns c = simp (c .either .ensures, c .before .within .ensures)
-
 pub pool-ok-spec : {M : Type 1} → statement M
-pool-ok-spec = tie.close (tie.spec (λ c κs. search needs) (λ c κs. search needs) returns)
+pool-ok-spec = tie.close (tie.spec (search needs) (search needs) (λ c. simp (c .either .ensures, c .before .within .ensures)))

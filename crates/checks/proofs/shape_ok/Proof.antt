@@ -3,8 +3,5 @@ use borrow.Author.Needs.{needs}
 use Rattle.checks.proofs.shape_ok.Statement.{statement}
 use Rattle.checks.proofs.shape_ok.Tie as tie
 
-returns : tie.Need-returns
-returns c = simp (c .both .ensures, c .before .within .ensures)
-
 pub shape-ok-spec : {M : Type 1} → statement M
-shape-ok-spec = tie.close (tie.spec (λ c κs. search needs) (λ c κs. search needs) returns)
+shape-ok-spec = tie.close (tie.spec (search needs) (search needs) (λ c. simp (c .both .ensures, c .before .within .ensures)))

@@ -4,9 +4,5 @@ use Rattle.basis.specs.Integer.{andOf}
 use Rattle.compare.proofs.bit_and.Statement.{statement}
 use Rattle.compare.proofs.bit_and.Tie as tie
 
-returns : tie.Need-returns
-unfolding andOf
-returns c = refl
-
 pub bit-and-spec : {M : Type 1} → statement M
-bit-and-spec = tie.close (tie.spec returns)
+bit-and-spec = tie.close (tie.spec (λ c. unfold andOf in refl))

@@ -4,9 +4,5 @@ use Rattle.basis.specs.Integer.{notOf, flipped}
 use Rattle.compare.proofs.bit_not.Statement.{statement}
 use Rattle.compare.proofs.bit_not.Tie as tie
 
-returns : tie.Need-returns
-unfolding notOf flipped
-returns c = refl
-
 pub bit-not-spec : {M : Type 1} → statement M
-bit-not-spec = tie.close (tie.spec returns)
+bit-not-spec = tie.close (tie.spec (λ c. unfold notOf flipped in refl))

@@ -4,9 +4,5 @@ use Rattle.basis.specs.Integer.{orOf}
 use Rattle.compare.proofs.bit_or.Statement.{statement}
 use Rattle.compare.proofs.bit_or.Tie as tie
 
-returns : tie.Need-returns
-unfolding orOf
-returns c = refl
-
 pub bit-or-spec : {M : Type 1} → statement M
-bit-or-spec = tie.close (tie.spec returns)
+bit-or-spec = tie.close (tie.spec (λ c. unfold orOf in refl))

@@ -4,12 +4,5 @@ use Rattle.basis.specs.Integer.{geuOf, leuOf}
 use Rattle.compare.proofs.geu.Statement.{statement}
 use Rattle.compare.proofs.geu.Tie as tie
 
-leu-requires : tie.Need-leu-requires
-leu-requires c κs = search needs
-
-returns : tie.Need-returns
-unfolding geuOf leuOf
-returns c = c .leu .ensures
-
 pub geu-spec : {M : Type 1} → statement M
-geu-spec = tie.close (tie.spec leu-requires returns)
+geu-spec = tie.close (tie.spec (search needs) (λ c. unfold geuOf leuOf in c .leu .ensures))

@@ -16,4 +16,4 @@ returns c =
     c .bare .ensures ∙ bare-is _ _ _ (start .args .seg .now) _ (row-agrees (start .args .first) _ (search needs) (row .ensures)) mark
 
 pub by-row-spec : {M : Type 1} → statement M
-by-row-spec = tie.close (tie.spec (λ c κs. search needs) (λ c κs. search needs) returns (λ c κs. search needs) (λ c. search needs))
+by-row-spec = tie.close (tie.spec (search needs) (search needs) returns (search needs) (λ c. search needs))

@@ -24,14 +24,4 @@ returns-2 c =
     c .cut .ensures ∙ first-is _ _ _ _ _ _ row (start .pre .1) missing
 
 pub first-operand-spec : {M : Type 1} → statement M
-first-operand-spec =
-    tie.close
-    (tie.spec
-    (λ c. search needs)
-    (λ c κs. search needs)
-    (λ c. search needs)
-    (λ c κs. search needs)
-    (λ c. search needs)
-    (λ c κs. search needs)
-    returns
-    returns-2)
+first-operand-spec = tie.close (tie.spec (search needs) (search needs) (search needs) (search needs) (search needs) (search needs) returns returns-2)

@@ -28,14 +28,4 @@ returns-2 c =
     reads-cut _ (read .before .before .args .at) _ _ (sym (ap fetchedOf (c .before .before .first2 .given .1)) ∙ read .read-at .ensures) (c .cut .ensures)
 
 pub read-spec : {M : Type 1} → statement M
-read-spec =
-    tie.close
-    (tie.spec
-    (λ c κs. search needs)
-    (λ c. search needs)
-    cast-by-row
-    (λ c κs. search needs)
-    (λ c. search needs)
-    (λ c κs. search needs)
-    returns
-    returns-2)
+read-spec = tie.close (tie.spec (search needs) (search needs) cast-by-row (search needs) (search needs) (search needs) returns returns-2)

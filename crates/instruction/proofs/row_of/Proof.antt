@@ -4,8 +4,5 @@ use borrow.Author.Needs.{needs}
 use Rattle.instruction.proofs.row_of.Statement.{statement}
 use Rattle.instruction.proofs.row_of.Tie as tie
 
-returns : tie.Need-returns
-returns c = c .table .ensures .row (c .before .args .first) (search needs)
-
 pub row-of-spec : {M : Type 1} → statement M
-row-of-spec = tie.close (tie.spec (λ c κs. search needs) (λ c. search needs) (λ c. search needs) returns)
+row-of-spec = tie.close (tie.spec (search needs) (search needs) (search needs) (λ c. c .table .ensures .row (c .before .args .first) (search needs)))

@@ -24,15 +24,4 @@ returns-2 c =
     c .cut .ensures ∙ second-is _ _ _ _ _ _ _ row (start .pre .1) missing
 
 pub second-operand-spec : {M : Type 1} → statement M
-second-operand-spec =
-    tie.close
-    (tie.spec
-    (λ c. search needs)
-    (λ c κs. search needs)
-    (λ c. search needs)
-    (λ c. search needs)
-    (λ c. search needs)
-    (λ c. search needs)
-    (λ c κs. search needs)
-    returns
-    returns-2)
+second-operand-spec = tie.close (tie.spec (search needs) (search needs) (search needs) (search needs) (search needs) (search needs) (search needs) returns returns-2)

@@ -4,9 +4,5 @@ use Rattle.segment.specs.Head.{least}
 use Rattle.segment.proofs.is_least.Statement.{statement}
 use Rattle.segment.proofs.is_least.Tie as tie
 
-returns : tie.Need-returns
-unfolding least
-returns c = simp (c .byte-at .ensures)
-
 pub is-least-spec : {M : Type 1} → statement M
-is-least-spec = tie.close (tie.spec (λ c κs. search needs) returns)
+is-least-spec = tie.close (tie.spec (search needs) (λ c. unfold least in simp (c .byte-at .ensures)))

@@ -5,7 +5,6 @@ use borrow.Author.Needs.{needs}
 use native.Mathlib.Omega.{arith}
 use lib.ListN.{length, length-set}
 use lib.Seq.{paste}
-use denote.Ref.{now}
 use Rattle.turning.proofs.Swaps.{copy-more, copy-all}
 use Rattle.turning.proofs.copy.Statement.{statement}
 use Rattle.turning.proofs.copy.Tie as tie
@@ -16,37 +15,18 @@ Inv-loop seg out₀ i₀ out i = (i ≤ length seg) × (length out ≡ length ou
 abbrev μ-loop : tie.MeasureT-loop
 μ-loop seg out₀ i₀ out i = length seg - i
 
-loop-holds : tie.Need-loop-holds Inv-loop μ-loop
-loop-holds c = (omega arith, refl, refl)
-
-slice-write-out : tie.Need-slice-write-out Inv-loop μ-loop
-slice-write-out c = omega arith
-
 loop-again : tie.Need-loop-again Inv-loop μ-loop
 loop-again c =
     let a = c .before .before .before .args in
     let l = c .before .before .loop in
-    (omega arith, simp length-set (l .inv .1), copy-more (now (a .seg)) (now (a .out)) (l .out) (l .i) (l .inv .2) (omega arith) (omega arith))
-
-same-length : tie.Need-same-length Inv-loop μ-loop
-same-length c = c .before .loop .inv .1
+    (omega arith, simp length-set (l .inv .1), copy-more (a .seg .now) (a .out .now) (l .out) (l .i) (l .inv .2) (omega arith) (omega arith))
 
 returns : tie.Need-returns Inv-loop μ-loop
 returns c =
     let a = c .before .before .args in
-    c .before .loop .inv .2 ∙ copy-all (now (a .seg)) (now (a .out)) (c .before .loop .i) (omega arith)
+    c .before .loop .inv .2 ∙ copy-all (a .seg .now) (a .out .now) (c .before .loop .i) (omega arith)
 
 pub copy-spec : {M : Type 1} → statement M
 copy-spec =
-    tie.close
-    (tie.spec
-    Inv-loop
-    μ-loop
-    loop-holds
-    (λ c. search needs)
-    slice-write-out
-    (λ c. search needs)
-    (λ c. search needs)
-    loop-again
-    same-length
-    returns)
+    tie.close (tie.spec Inv-loop μ-loop (λ c. (omega arith, refl, refl)) (search needs) (λ c. omega arith) (search needs) (search needs) loop-again
+    (λ c. c .before .loop .inv .1) returns)

@@ -1,10 +1,9 @@
 -- `turning::swap_frames` meets its contract. Assumes nothing.
 use mathlib.Core.Path.{_≡_, refl, _∙_, ap}
-use Prim.Native.Nat.{ℕ, _-_, _≤_}
+use Prim.Native.Nat.{_-_, _≤_}
 use borrow.Author.Needs.{needs}
 use native.Mathlib.Omega.{arith}
 use lib.ListN.{length}
-use denote.Ref.{now}
 use Rattle.segment.specs.declared.Routine.{Routine}
 use Rattle.turning.specs.Turn.{framed, swapAt}
 use Rattle.turning.proofs.Positions.{entry-fits, frames-start, frames-more}
@@ -17,45 +16,39 @@ Inv-loop seg out₀ n k₀ out k = (k ≤ n) × (length out ≡ length out₀) �
 abbrev μ-loop : tie.MeasureT-loop
 μ-loop seg out₀ n k₀ out k = n - k
 
-loop-holds : tie.Need-loop-holds Inv-loop μ-loop
-loop-holds c = (omega arith, refl, frames-start (now (c .before .before .args .seg)) (now (c .before .before .args .out)))
-
+-- the entry of routine k + 1 lies in the segment
 sub-swap-words : tie.Need-sub-swap-words Inv-loop μ-loop
-sub-swap-words c = entry-fits (now (c .before .before .before .before .before .before .before .args .seg)) (c .before .before .before .before .before .before .before .pre .0) (c .before .before .before .before .before .before .before .args .n) (c .before .before .before .before .loop .k) (c .before .before .routine-of .result .entry) (c .before .before .before .before .before .before .before .pre .2) (c .before .before .before .loop-test .taken) (ap (λ (r : Routine). r .entry) (c .before .before .routine-of .ensures)) .0
+sub-swap-words c =
+    let read = c .before .before in
+    let start = read .before .before .before .before .before in
+    entry-fits (start .args .seg .now) (start .pre .0) (start .pre .2) (read .before .loop-test .taken) (ap (λ (r : Routine). r .entry) (read .routine-of .ensures)) .0
 
 swap-words-requires : tie.Need-swap-words-requires Inv-loop μ-loop
 swap-words-requires c κs =
-    let f = entry-fits (now (c .before .before .before .before .before .before .before .args .seg)) (c .before .before .before .before .before .before .before .pre .0) (c .before .before .before .before .before .before .before .args .n) (c .before .before .before .before .loop .k) (c .before .before .routine-of .result .entry) (c .before .before .before .before .before .before .before .pre .2) (c .before .before .before .loop-test .taken) (ap (λ (r : Routine). r .entry) (c .before .before .routine-of .ensures)) in
+    let read = c .before .before in
+    let start = read .before .before .before .before .before in
+    let f = entry-fits (start .args .seg .now) (start .pre .0) (start .pre .2) (read .before .loop-test .taken) (ap (λ (r : Routine). r .entry) (read .routine-of .ensures)) in
     (omega arith, omega (arith, f .1), omega arith)
 
 loop-again : tie.Need-loop-again Inv-loop μ-loop
 loop-again c =
-    let f = entry-fits (now (c .before .before .before .before .before .before .before .before .before .before .args .seg)) (c .before .before .before .before .before .before .before .before .before .before .pre .0) (c .before .before .before .before .before .before .before .before .before .before .args .n) (c .before .before .before .before .before .before .before .loop .k) (c .before .before .before .before .before .routine-of .result .entry) (c .before .before .before .before .before .before .before .before .before .before .pre .2) (c .before .before .before .before .before .before .loop-test .taken) (ap (λ (r : Routine). r .entry) (c .before .before .before .before .before .routine-of .ensures)) in
     let t = c .before .before .swap-words in
-    (omega arith, t .kept .1 .0 ∙ c .before .before .before .before .before .before .before .loop .inv .1, t .ensures ∙ frames-more (now (c .before .before .before .before .before .before .before .before .before .before .args .seg)) (now (c .before .before .before .before .before .before .before .before .before .before .args .out)) (c .before .before .before .before .before .before .before .loop .out) (c .before .before .before .before .before .before .before .loop .k) (c .before .before .before .before .before .routine-of .result .entry) (c .before .before .before .before .before .before .before .loop .inv .2) (ap (λ (r : Routine). r .entry) (c .before .before .before .before .before .routine-of .ensures)) (f .0))
-
-same-length : tie.Need-same-length Inv-loop μ-loop
-same-length c = c .before .loop .inv .1
+    let read = c .before .before .before .before .before in
+    let l = read .before .before .loop in
+    let start = read .before .before .before .before .before in
+    let e = ap (λ (r : Routine). r .entry) (read .routine-of .ensures) in
+    let f = entry-fits (start .args .seg .now) (start .pre .0) (start .pre .2) (read .before .loop-test .taken) e in
+    (omega arith, t .kept .1 .0 ∙ l .inv .1, t .ensures ∙ frames-more (start .args .seg .now) (start .args .out .now) (l .k) (l .inv .2) e (f .0))
 
 returns : tie.Need-returns Inv-loop μ-loop
 returns c =
-    let e : c .before .loop .k ≡ c .before .before .before .before .args .n = omega arith in
-    c .before .loop .inv .2 ∙ ap (λ (n : ℕ). swapAt (framed (now (c .before .before .before .before .args .seg)) n) (now (c .before .before .before .before .args .seg)) (now (c .before .before .before .before .args .out))) (e ∙ c .before .before .before .before .pre .2)
+    let l = c .before .loop in
+    let start = c .before .before .before .before in
+    let e : l .k ≡ start .args .n = omega arith in
+    rw (e ∙ start .pre .2) at (l .inv .2)
 
 pub swap-frames-spec : {M : Type 1} → statement M
 swap-frames-spec =
-    tie.close
-    (tie.spec
-    Inv-loop
-    μ-loop
-    loop-holds
-    (λ c. search needs)
-    (λ c κs. search needs)
-    (λ c. search needs)
-    sub-swap-words
-    (λ c. search needs)
-    swap-words-requires
-    (λ c. search needs)
-    loop-again
-    same-length
-    returns)
+    tie.close (tie.spec Inv-loop μ-loop
+    (λ c. (omega arith, refl, frames-start (c .before .before .args .seg .now) (c .before .before .args .out .now)))
+    (search needs) (search needs) (search needs) sub-swap-words (search needs) swap-words-requires (search needs) loop-again (λ c. c .before .loop .inv .1) returns)

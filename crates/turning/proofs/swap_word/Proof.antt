@@ -2,29 +2,16 @@
 use borrow.Author.Needs.{needs}
 use native.Mathlib.Omega.{arith}
 use lib.ListN.{length-set}
-use denote.Ref.{now}
 use Rattle.turning.proofs.Swaps.{swap-word}
 use Rattle.turning.proofs.swap_word.Statement.{statement}
 use Rattle.turning.proofs.swap_word.Tie as tie
 
-slice-write-out-2 : tie.Need-slice-write-out-2
-slice-write-out-2 c = simp length-set (omega arith)
-
 returns : tie.Need-returns
 returns c =
     let a = c .before .before .args in
-    swap-word (now (a .seg)) (now (a .out)) (a .w) (omega arith)
+    swap-word (a .seg .now) (a .out .now) (a .w) (omega arith)
 
 pub swap-word-spec : {M : Type 1} → statement M
 swap-word-spec =
-    tie.close
-    (tie.spec
-    (λ c. search needs)
-    (λ c. search needs)
-    (λ c. search needs)
-    (λ c. search needs)
-    (λ c. search needs)
-    (λ c. search needs)
-    slice-write-out-2
-    (λ c. search needs)
+    tie.close (tie.spec (search needs) (search needs) (search needs) (search needs) (search needs) (search needs) (λ c. simp length-set (omega arith)) (search needs)
     returns)

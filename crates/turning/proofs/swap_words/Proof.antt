@@ -1,10 +1,9 @@
 -- `turning::swap_words` meets its contract. Assumes nothing.
-use mathlib.Core.Path.{_≡_, refl, _∙_, ap}
-use Prim.Native.Nat.{ℕ, _-_, _≤_}
+use mathlib.Core.Path.{_≡_, refl, _∙_}
+use Prim.Native.Nat.{_-_, _≤_}
 use borrow.Author.Needs.{needs}
 use native.Mathlib.Omega.{arith}
 use lib.ListN.{length}
-use denote.Ref.{now}
 use Rattle.basis.specs.Bools.{inside}
 use Rattle.turning.specs.Turn.{swapAt}
 use Rattle.turning.proofs.Positions.{range-start, range-more}
@@ -20,37 +19,23 @@ abbrev μ-loop : tie.MeasureT-loop
 loop-holds : tie.Need-loop-holds Inv-loop μ-loop
 loop-holds c =
     let a = c .before .before .args in
-    (omega arith, omega arith, refl, range-start (now (a .seg)) (now (a .out)) (a .first))
-
-swap-word-requires : tie.Need-swap-word-requires Inv-loop μ-loop
-swap-word-requires c κs = (omega arith, omega arith)
+    (omega arith, omega arith, refl, range-start (a .seg .now) (a .out .now) (a .first))
 
 loop-again : tie.Need-loop-again Inv-loop μ-loop
 loop-again c =
-    let a = c .before .before .before .before .before .before .before .before .args in
-    let l = c .before .before .before .before .before .loop in
+    let turn = c .before .before .before .before .before in
+    let a = turn .before .before .before .args in
+    let l = turn .loop in
     let t = c .before .before .swap-word in
-    (omega arith, omega arith, t .kept .1 .0 ∙ l .inv .2, t .ensures ∙ range-more (now (a .seg)) (now (a .out)) (a .first) (l .w) (omega arith) (l .out) (l .inv .3))
-
-same-length : tie.Need-same-length Inv-loop μ-loop
-same-length c = c .before .loop .inv .2
+    (omega arith, omega arith, t .kept .1 .0 ∙ l .inv .2, t .ensures ∙ range-more (a .seg .now) (a .out .now) (a .first) (l .w) (omega arith) (l .inv .3))
 
 returns : tie.Need-returns Inv-loop μ-loop
 returns c =
     let a = c .before .before .before .before .args in
     let e : c .before .loop .w ≡ a .end = omega arith in
-    c .before .loop .inv .3 ∙ ap (λ (n : ℕ). swapAt (inside (a .first) n) (now (a .seg)) (now (a .out))) e
+    rw e at (c .before .loop .inv .3)
 
 pub swap-words-spec : {M : Type 1} → statement M
 swap-words-spec =
-    tie.close
-    (tie.spec
-    Inv-loop
-    μ-loop
-    loop-holds
-    swap-word-requires
-    (λ c. search needs)
-    (λ c. search needs)
-    loop-again
-    same-length
+    tie.close (tie.spec Inv-loop μ-loop loop-holds (λ c κs. (omega arith, omega arith)) (search needs) (search needs) loop-again (λ c. c .before .loop .inv .2)
     returns)

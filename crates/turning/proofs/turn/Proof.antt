@@ -28,13 +28,4 @@ returns-2 c =
     (judged .judge-turn .ensures, rw (sym (judged .judge-turn .ensures) ∙ ap rulingOf (c .enum-told2 .given .1)))
 
 pub turn-spec : {M : Type 1} → statement M
-turn-spec =
-    tie.close
-    (tie.spec
-    (λ c κs. search needs)
-    (λ c. search needs)
-    turn-words-requires
-    (λ c. search needs)
-    (λ c. search needs)
-    returns
-    returns-2)
+turn-spec = tie.close (tie.spec (search needs) (search needs) turn-words-requires (search needs) (search needs) returns returns-2)

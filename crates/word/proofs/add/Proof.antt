@@ -5,11 +5,8 @@ use Rattle.basis.proofs.Integer.{add-is}
 use Rattle.word.proofs.add.Statement.{statement}
 use Rattle.word.proofs.add.Tie as tie
 
-wrapping-add-u16-requires : tie.Need-wrapping-add-u16-requires
-wrapping-add-u16-requires c κs = search needs
-
 returns : tie.Need-returns
 returns c = let a = c .before .args in c .wrapping-add-u16 .ensures ∙ sym (add-is (a .x) (a .y) (search needs) (search needs))
 
 pub add-spec : {M : Type 1} → statement M
-add-spec = tie.close (tie.spec wrapping-add-u16-requires returns)
+add-spec = tie.close (tie.spec (search needs) returns)

@@ -5,9 +5,6 @@ use Rattle.basis.proofs.Integer.{sub-wraps, dec-is}
 use Rattle.word.proofs.dec.Statement.{statement}
 use Rattle.word.proofs.dec.Tie as tie
 
-wrapping-sub-u16-requires : tie.Need-wrapping-sub-u16-requires
-wrapping-sub-u16-requires c κs = search needs
-
 returns : tie.Need-returns
 returns c =
     let a = c .before .args in
@@ -15,4 +12,4 @@ returns c =
     ∙ sym (dec-is (a .x) (search needs))
 
 pub dec-spec : {M : Type 1} → statement M
-dec-spec = tie.close (tie.spec wrapping-sub-u16-requires returns)
+dec-spec = tie.close (tie.spec (search needs) returns)

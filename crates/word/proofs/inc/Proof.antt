@@ -5,13 +5,10 @@ use Rattle.basis.proofs.Integer.{add-is, inc-is}
 use Rattle.word.proofs.inc.Statement.{statement}
 use Rattle.word.proofs.inc.Tie as tie
 
-wrapping-add-u16-requires : tie.Need-wrapping-add-u16-requires
-wrapping-add-u16-requires c κs = search needs
-
 returns : tie.Need-returns
 returns c =
     let a = c .before .args in
     c .wrapping-add-u16 .ensures ∙ sym (add-is (a .x) 1 (search needs) (search needs)) ∙ sym (inc-is (a .x) (search needs))
 
 pub inc-spec : {M : Type 1} → statement M
-inc-spec = tie.close (tie.spec wrapping-add-u16-requires returns)
+inc-spec = tie.close (tie.spec (search needs) returns)

@@ -14,24 +14,13 @@ Inv-loop x y sum₀ factor₀ left₀ sum factor left = (sum < 65536) × ((sum +
 abbrev μ-loop : tie.MeasureT-loop
 μ-loop x y sum₀ factor₀ left₀ sum factor left = left
 
-loop-holds : tie.Need-loop-holds Inv-loop μ-loop
-loop-holds c = omega arith
-
-wrapping-add-u16-requires : tie.Need-wrapping-add-u16-requires Inv-loop μ-loop
-wrapping-add-u16-requires c κs = search needs
-
-wrapping-add-u16-requires-2 : tie.Need-wrapping-add-u16-requires-2 Inv-loop μ-loop
-wrapping-add-u16-requires-2 c κs = search needs
-
-loop-less : tie.Need-loop-less Inv-loop μ-loop
-loop-less c = omega arith
-
 loop-again : tie.Need-loop-again Inv-loop μ-loop
 loop-again c =
     let l = c .before .before .before .loop in
+    let twice = c .wrapping-add-u162 in
     ⊎-elim
-    (λ w. (search needs, bit-set 65536 (l .sum) (l .factor) (l .left) (c .wrapping-add-u162 .result) (c .wrapping-add-u162 .ensures) (c .before .if1 .sum) (w .2 ∙ w .1 .ensures) (w .0 .taken) ∙ l .inv .1))
-    (λ w. (search needs, rw (w .1) (bit-clear 65536 (l .sum) (l .factor) (l .left) (c .wrapping-add-u162 .result) (c .wrapping-add-u162 .ensures) (w .0 .left) ∙ l .inv .1)))
+    (λ w. (search needs, bit-set 65536 (l .sum) (l .factor) (l .left) (twice .result) (twice .ensures) (c .before .if1 .sum) (w .2 ∙ w .1 .ensures) (w .0 .taken) ∙ l .inv .1))
+    (λ w. (search needs, rw (w .1) (bit-clear 65536 (l .sum) (l .factor) (l .left) (twice .result) (twice .ensures) (w .0 .left) ∙ l .inv .1)))
     (c .before .if1 .came)
 
 returns : tie.Need-returns Inv-loop μ-loop
@@ -41,14 +30,4 @@ returns c =
     omega (arith, l .inv .1, mul-is (a .x) (a .y) (search needs) (search needs), ap (λ (t : ℕ). l .factor * t) (c .loop-test .left))
 
 pub mul-spec : {M : Type 1} → statement M
-mul-spec =
-    tie.close
-    (tie.spec
-    Inv-loop
-    μ-loop
-    loop-holds
-    wrapping-add-u16-requires
-    wrapping-add-u16-requires-2
-    loop-less
-    loop-again
-    returns)
+mul-spec = tie.close (tie.spec Inv-loop μ-loop (λ c. omega arith) (search needs) (search needs) (λ c. omega arith) loop-again returns)

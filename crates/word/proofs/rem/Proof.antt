@@ -8,36 +8,22 @@ use Rattle.word.proofs.rem.Tie as tie
 returns : tie.Need-returns
 returns c = let a = c .before .args in sym (rem-none (a .x) (a .y) (search needs) (c .if1 .taken))
 
-mag-requires : tie.Need-mag-requires
-mag-requires c κs = search needs
-
-mag-requires-2 : tie.Need-mag-requires-2
-mag-requires-2 c κs = search needs
-
 rem-r : tie.Need-rem-r
 rem-r c =
     let a = c .before .before .before .args in
-    let m = c .before .mag in
-    let k = c .mag2 in
-    divisor-some (a .x) (a .y) (m .result) (k .result) (search needs) (search needs) (m .ensures) (k .ensures) (c .before .before .if1 .left)
-
-neg-requires : tie.Need-neg-requires
-neg-requires c κs = search needs
+    divisor-some (a .x) (a .y) (search needs) (search needs) (c .before .mag .ensures) (c .mag2 .ensures) (c .before .before .if1 .left)
 
 returns-2 : tie.Need-returns-2
 returns-2 c =
-    let a = c .before .before .before .before .before .args in
-    let m = c .before .before .before .mag in
-    let k = c .before .before .mag2 in
-    c .neg .ensures ∙ rem-minus (a .x) (a .y) (m .result) (k .result) (search needs) (search needs) (m .ensures) (k .ensures) (c .before .if2 .taken)
+    let mags = c .before .before in
+    let a = mags .before .before .before .args in
+    c .neg .ensures ∙ rem-minus (a .x) (a .y) (search needs) (search needs) (mags .before .mag .ensures) (mags .mag2 .ensures) (c .before .if2 .taken)
 
 returns-3 : tie.Need-returns-3
 returns-3 c =
-    let a = c .before .before .before .before .args in
-    let m = c .before .before .mag in
-    let k = c .before .mag2 in
-    rem-plus (a .x) (a .y) (m .result) (k .result) (search needs) (search needs) (m .ensures) (k .ensures) (c .if2 .left)
+    let mags = c .before in
+    let a = mags .before .before .before .args in
+    rem-plus (a .x) (a .y) (search needs) (search needs) (mags .before .mag .ensures) (mags .mag2 .ensures) (c .if2 .left)
 
 pub rem-spec : {M : Type 1} → statement M
-rem-spec =
-    tie.close (tie.spec returns mag-requires mag-requires-2 rem-r neg-requires returns-2 returns-3)
+rem-spec = tie.close (tie.spec returns (search needs) (search needs) rem-r (search needs) returns-2 returns-3)

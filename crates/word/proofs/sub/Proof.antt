@@ -4,13 +4,10 @@ use Rattle.basis.proofs.Integer.{sub-wraps}
 use Rattle.word.proofs.sub.Statement.{statement}
 use Rattle.word.proofs.sub.Tie as tie
 
-wrapping-sub-u16-requires : tie.Need-wrapping-sub-u16-requires
-wrapping-sub-u16-requires c κs = search needs
-
 returns : tie.Need-returns
 returns c =
     let a = c .before .args in
     sub-wraps (a .x) (a .y) (search needs) (search needs) (c .wrapping-sub-u16 .result) (search needs) (c .wrapping-sub-u16 .ensures)
 
 pub sub-spec : {M : Type 1} → statement M
-sub-spec = tie.close (tie.spec wrapping-sub-u16-requires returns)
+sub-spec = tie.close (tie.spec (search needs) returns)

@@ -6,23 +6,13 @@ use Rattle.operand.specs.Operand.{ifThere, signed, fetched}
 use Rattle.operand.proofs.fetches.signed.Statement.{statement}
 use Rattle.operand.proofs.fetches.signed.Tie as tie
 
-cast-b : tie.Need-cast-b
-cast-b c = omega (arith, c .shared-slice-known .given (c .before .before .args .at))
-
-returns : tie.Need-returns
-unfolding fetched signed ifThere
-returns c = simp (lt-ltb _ _ (c .before .before .if1 .taken), lt-ltb _ _ (c .if2 .taken))
-
-add-t10 : tie.Need-add-t10
-add-t10 c = omega (arith, c .before .shared-slice-known .given (c .before .before .before .args .at))
-
-returns-2 : tie.Need-returns-2
-unfolding fetched signed ifThere
-returns-2 c = simp (lt-ltb _ _ (c .before .before .if1 .taken), le-ltb _ _ (c .if2 .left))
-
-returns-3 : tie.Need-returns-3
-unfolding fetched ifThere
-returns-3 c = simp (le-ltb _ _ (c .if1 .left))
-
 pub signed-spec : {M : Type 1} → statement M
-signed-spec = tie.close (tie.spec (λ c. search needs) cast-b (λ c. search needs) returns add-t10 (λ c. search needs) returns-2 returns-3)
+signed-spec =
+    tie.close (tie.spec (search needs)
+    (λ c. omega (arith, c .shared-slice-known .given (c .before .before .args .at)))
+    (search needs)
+    (λ c. unfold fetched signed ifThere in simp (lt-ltb _ _ (c .before .before .if1 .taken), lt-ltb _ _ (c .if2 .taken)))
+    (λ c. omega (arith, c .before .shared-slice-known .given (c .before .before .before .args .at)))
+    (search needs)
+    (λ c. unfold fetched signed ifThere in simp (lt-ltb _ _ (c .before .before .if1 .taken), le-ltb _ _ (c .if2 .left)))
+    (λ c. unfold fetched ifThere in simp (le-ltb _ _ (c .if1 .left))))

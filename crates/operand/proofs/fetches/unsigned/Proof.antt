@@ -6,16 +6,10 @@ use Rattle.operand.specs.Operand.{ifThere, fetched}
 use Rattle.operand.proofs.fetches.unsigned.Statement.{statement}
 use Rattle.operand.proofs.fetches.unsigned.Tie as tie
 
-cast-t7 : tie.Need-cast-t7
-cast-t7 c = omega (arith, c .shared-slice-known .given (c .before .before .args .at))
-
-returns : tie.Need-returns
-unfolding fetched ifThere
-returns c = simp (lt-ltb _ _ (c .before .if1 .taken))
-
-returns-2 : tie.Need-returns-2
-unfolding fetched ifThere
-returns-2 c = simp (le-ltb _ _ (c .if1 .left))
-
 pub unsigned-spec : {M : Type 1} → statement M
-unsigned-spec = tie.close (tie.spec (λ c. search needs) cast-t7 (λ c. search needs) returns returns-2)
+unsigned-spec =
+    tie.close (tie.spec (search needs)
+    (λ c. omega (arith, c .shared-slice-known .given (c .before .before .args .at)))
+    (search needs)
+    (λ c. unfold fetched ifThere in simp (lt-ltb _ _ (c .before .if1 .taken)))
+    (λ c. unfold fetched ifThere in simp (le-ltb _ _ (c .if1 .left))))

@@ -16,29 +16,17 @@ Inv-loop s i₀ i = (i ≤ length s) × (allDigits s ≡ allDigits (drop i s))
 abbrev μ-loop : tie.MeasureT-loop
 μ-loop s i₀ i = length s - i
 
-loop-holds : tie.Need-loop-holds Inv-loop μ-loop
-loop-holds c = search needs
-
-shared-slice-read-digit : tie.Need-shared-slice-read-digit Inv-loop μ-loop
-shared-slice-read-digit c = search needs
-
-digit-requires : tie.Need-digit-requires Inv-loop μ-loop
-digit-requires c κs = search needs
-
 returns : tie.Need-returns Inv-loop μ-loop
-returns c = digits-stop _ _ (c .before .before .before .loop-test .taken) (sym (c .before .digit .ensures) ∙ not-true _ (c .if1 .taken)) (c .before .before .before .before .loop .inv .1)
-
-add-i : tie.Need-add-i Inv-loop μ-loop
-add-i c = search needs
-
-loop-less : tie.Need-loop-less Inv-loop μ-loop
-loop-less c = search needs
+returns c =
+    let test = c .before .before .before in
+    digits-stop _ _ (test .loop-test .taken) (sym (c .before .digit .ensures) ∙ not-true _ (c .if1 .taken)) (test .before .loop .inv .1)
 
 loop-again : tie.Need-loop-again Inv-loop μ-loop
-loop-again c = (search needs, digits-go _ _ (c .before .before .before .loop-test .taken) (sym (c .before .digit .ensures) ∙ not-false _ (c .if1 .left)) (c .before .before .before .before .loop .inv .1))
-
-returns-2 : tie.Need-returns-2 Inv-loop μ-loop
-returns-2 c = digits-end _ _ (c .loop-test .left) (c .before .loop .inv .1)
+loop-again c =
+    let test = c .before .before .before in
+    (search needs, digits-go _ _ (test .loop-test .taken) (sym (c .before .digit .ensures) ∙ not-false _ (c .if1 .left)) (test .before .loop .inv .1))
 
 pub digits-spec : {M : Type 1} → statement M
-digits-spec = tie.close (tie.spec Inv-loop μ-loop loop-holds shared-slice-read-digit digit-requires returns add-i loop-less loop-again returns-2)
+digits-spec =
+    tie.close (tie.spec Inv-loop μ-loop (search needs) (search needs) (search needs) returns (search needs) (search needs) loop-again
+    (λ c. digits-end _ _ (c .loop-test .left) (c .before .loop .inv .1)))

@@ -6,14 +6,11 @@ use Rattle.text.proofs.Values.{number-none, number-not, number-is}
 use Rattle.text.proofs.numbers.number_of.Statement.{statement}
 use Rattle.text.proofs.numbers.number_of.Tie as tie
 
-returns : tie.Need-returns
-returns c = number-none _ (c .if1 .taken)
-
-returns-2 : tie.Need-returns-2
-returns-2 c = number-not _ (sym (not-true _ (c .if2 .taken)) ∙ c .before .digits .ensures)
-
 returns-3 : tie.Need-returns-3
 returns-3 c = number-is _ _ (c .before .before .before .if1 .left) (sym (not-false _ (c .before .if2 .left)) ∙ c .before .before .digits .ensures) (c .value .ensures)
 
 pub number-of-spec : {M : Type 1} → statement M
-number-of-spec = tie.close (tie.spec returns (λ c κs. search needs) returns-2 (λ c κs. search needs) returns-3)
+number-of-spec =
+    tie.close (tie.spec (λ c. number-none _ (c .if1 .taken)) (search needs)
+    (λ c. number-not _ (sym (not-true _ (c .if2 .taken)) ∙ c .before .digits .ensures))
+    (search needs) returns-3)

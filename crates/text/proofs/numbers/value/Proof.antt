@@ -16,38 +16,20 @@ Inv-loop s v₀ i₀ v i = (i ≤ length s) × (v < 2 ^ 64) × (valueFrom 0 s �
 abbrev μ-loop : tie.MeasureT-loop
 μ-loop s v₀ i₀ v i = length s - i
 
-loop-holds : tie.Need-loop-holds Inv-loop μ-loop
-loop-holds c = search needs
-
-shared-slice-read-worth : tie.Need-shared-slice-read-worth Inv-loop μ-loop
-shared-slice-read-worth c = search needs
-
-worth-requires : tie.Need-worth-requires Inv-loop μ-loop
-worth-requires c κs = search needs
-
-sub-if1 : tie.Need-sub-if1 Inv-loop μ-loop
-sub-if1 c = search needs
-
 returns : tie.Need-returns Inv-loop μ-loop
-returns c = value-stops _ _ _ _ (c .before .before .before .before .loop .inv .2) _ (c .before .before .before .loop-test .taken) (c .before .worth .ensures) (c .if1 .taken)
-
-mul-v : tie.Need-mul-v Inv-loop μ-loop
-mul-v c = omega (arith, fits _ _ 18446744073709551615 (omega arith) (c .if1 .left))
-
-add-v : tie.Need-add-v Inv-loop μ-loop
-add-v c = omega (arith, fits _ _ 18446744073709551615 (omega arith) (c .if1 .left))
-
-add-i : tie.Need-add-i Inv-loop μ-loop
-add-i c = search needs
-
-loop-less : tie.Need-loop-less Inv-loop μ-loop
-loop-less c = search needs
+returns c =
+    let test = c .before .before .before in
+    value-stops _ _ _ _ (test .before .loop .inv .2) _ (test .loop-test .taken) (c .before .worth .ensures) (c .if1 .taken)
 
 loop-again : tie.Need-loop-again Inv-loop μ-loop
-loop-again c = (search needs, search needs, value-goes _ _ _ _ (c .before .before .before .before .loop .inv .2) _ (c .before .before .before .loop-test .taken) (c .before .worth .ensures))
-
-returns-2 : tie.Need-returns-2 Inv-loop μ-loop
-returns-2 c = value-ends _ _ _ _ (c .before .loop .inv .2) (c .loop-test .left) (c .before .loop .inv .1)
+loop-again c =
+    let test = c .before .before .before in
+    (search needs, search needs, value-goes _ _ _ _ (test .before .loop .inv .2) _ (test .loop-test .taken) (c .before .worth .ensures))
 
 pub value-spec : {M : Type 1} → statement M
-value-spec = tie.close (tie.spec Inv-loop μ-loop loop-holds shared-slice-read-worth worth-requires sub-if1 returns mul-v add-v add-i loop-less loop-again returns-2)
+value-spec =
+    tie.close (tie.spec Inv-loop μ-loop (search needs) (search needs) (search needs) (search needs) returns
+    (λ c. omega (arith, fits _ _ 18446744073709551615 (omega arith) (c .if1 .left)))
+    (λ c. omega (arith, fits _ _ 18446744073709551615 (omega arith) (c .if1 .left)))
+    (search needs) (search needs) loop-again
+    (λ c. value-ends _ _ _ _ (c .before .loop .inv .2) (c .loop-test .left) (c .before .loop .inv .1)))

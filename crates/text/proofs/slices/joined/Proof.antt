@@ -13,11 +13,13 @@ returns-2 c = let a = c .before .before .before .before .before .args in joined-
 
 returns-3 : tie.Need-returns-3
 returns-3 c =
-    let a = c .before .before .before .before .before .before .before .before .before .before .before .before .before .args in
-    let p = c .before .before .before .before .before .before .put in
     let q = c .before .before .put2 in
+    let first = c .before .before .before .before .before .before in
+    let p = first .put in
+    let fits = first .before .before in
+    let a = fits .before .before .before .before .before .args in
     joined-holds (a .room .now) (p .last .1 .0) (q .last .1 .0) (a .a .now) (a .b .now) (p .result) (q .result)
-    (omega (arith, c .before .before .before .before .before .before .before .before .if2 .left, c .before .before .before .before .before .before .before .before .before .if1 .left)) (p .kept .1 .0) (p .ensures .0) (p .ensures .1) (q .ensures .0) (q .ensures .1)
+    (omega (arith, fits .if2 .left, fits .before .if1 .left)) (p .kept .1 .0) (p .ensures .0) (p .ensures .1) (q .ensures .0) (q .ensures .1)
 
 pub joined-spec : {M : Type 1} → statement M
-joined-spec = tie.close (tie.spec returns (λ c. search needs) returns-2 (λ c κs. search needs) (λ c κs. search needs) (λ c. search needs) returns-3)
+joined-spec = tie.close (tie.spec returns (search needs) returns-2 (search needs) (search needs) (search needs) returns-3)

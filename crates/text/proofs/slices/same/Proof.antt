@@ -3,7 +3,7 @@
 use Prim.Native.Nat.{ℕ, _-_, _≤_, _<_}
 use native.Mathlib.Omega.{arith}
 use mathlib.Core.Path.{_≡_, refl, ap}
-use mathlib.Core.Bool.{true, false}
+use mathlib.Core.Bool.{true, false, false≢true}
 use mathlib.Core.List.{List}
 use borrow.Author.Needs.{needs}
 use borrow.Author.Count.{below-more}
@@ -14,10 +14,7 @@ use Rattle.text.proofs.slices.same.Tie as tie
 
 -- what the contract says of two lists that differ, and of two that are equal
 unlike : {a b : List ℕ} → (a ≡ b → ⊥) → (false ≡ true → a ≡ b) × (a ≡ b → false ≡ true)
-unlike n = ((λ (e : false ≡ true). never e), (λ e. absurd (n e)))
-  where
-    never : {A : Type 0} → false ≡ true → A
-    never e = let z : _≡_ {A = ℕ} 0 1 = cc in let f : ⊥ = omega arith in absurd f
+unlike n = ((λ (e : false ≡ true). absurd (false≢true e)), (λ e. absurd (n e)))
 
 alike : {a b : List ℕ} → a ≡ b → (true ≡ true → a ≡ b) × (a ≡ b → true ≡ true)
 alike e = ((λ _. e), (λ _. refl))
@@ -28,31 +25,10 @@ Inv-loop a b i₀ i = (i ≤ length a) × ((k : ℕ) → k < i → getD a k 0 �
 abbrev μ-loop : tie.MeasureT-loop
 μ-loop a b i₀ i = length a - i
 
-returns : tie.Need-returns Inv-loop μ-loop
-returns c = unlike (λ e. let l = ap length e in omega (arith, l, c .if1 .taken))
-
-loop-holds : tie.Need-loop-holds Inv-loop μ-loop
-loop-holds c = (search needs, λ (k : ℕ) (h : k < 0). omega arith)
-
-shared-slice-read-if2 : tie.Need-shared-slice-read-if2 Inv-loop μ-loop
-shared-slice-read-if2 c = search needs
-
-shared-slice-read-if2-2 : tie.Need-shared-slice-read-if2-2 Inv-loop μ-loop
-shared-slice-read-if2-2 c = search needs
-
 returns-2 : tie.Need-returns-2 Inv-loop μ-loop
 returns-2 c =
     let at = c .before .before .before .before .loop .i in
     unlike (λ e. let same = ap (λ (l : List ℕ). getD l at 0) e in omega (arith, same, c .if2 .taken))
-
-add-i : tie.Need-add-i Inv-loop μ-loop
-add-i c = search needs
-
-loop-less : tie.Need-loop-less Inv-loop μ-loop
-loop-less c = search needs
-
-loop-again : tie.Need-loop-again Inv-loop μ-loop
-loop-again c = (search needs, below-more _ _ (c .before .before .before .before .loop .inv .1) (c .if2 .left))
 
 returns-3 : tie.Need-returns-3 Inv-loop μ-loop
 returns-3 c =
@@ -60,4 +36,9 @@ returns-3 c =
     alike (ext-getD 0 _ _ (c .before .before .if1 .left) (λ (k : ℕ) h. c .before .loop .inv .1 k (all k h)))
 
 pub same-spec : {M : Type 1} → statement M
-same-spec = tie.close (tie.spec Inv-loop μ-loop returns loop-holds shared-slice-read-if2 shared-slice-read-if2-2 returns-2 add-i loop-less loop-again returns-3)
+same-spec =
+    tie.close (tie.spec Inv-loop μ-loop
+    (λ c. unlike (λ e. let l = ap length e in omega (arith, l, c .if1 .taken)))
+    (λ c. (search needs, λ (k : ℕ) (h : k < 0). omega arith)) (search needs) (search needs) returns-2 (search needs) (search needs)
+    (λ c. (search needs, below-more _ _ (c .before .before .before .before .loop .inv .1) (c .if2 .left)))
+    returns-3)

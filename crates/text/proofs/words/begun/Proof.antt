@@ -4,8 +4,5 @@ use Rattle.text.proofs.Runs.{begun-holds}
 use Rattle.text.proofs.words.begun.Statement.{statement}
 use Rattle.text.proofs.words.begun.Tie as tie
 
-returns : tie.Need-returns
-returns c = begun-holds _ _ (c .before .blanks .ensures .0)
-
 pub begun-spec : {M : Type 1} → statement M
-begun-spec = tie.close (tie.spec (λ c κs. search needs) (λ c. search needs) (λ c. search needs) (λ c. search needs) returns)
+begun-spec = tie.close (tie.spec (search needs) (search needs) (search needs) (search needs) (λ c. begun-holds _ _ (c .before .blanks .ensures .0)))

@@ -7,7 +7,7 @@ use borrow.Author.Needs.{needs}
 use borrow.Author.Tests.{not-true, not-false}
 use lib.ListN.{length, drop}
 use Rattle.text.specs.Words.{blankRun}
-use Rattle.text.proofs.Runs.{blank-ends, blank-stops, blank-goes}
+use Rattle.text.proofs.Runs.{blanks, run-ends, run-stops, run-goes}
 use Rattle.text.proofs.words.blanks.Statement.{statement}
 use Rattle.text.proofs.words.blanks.Tie as tie
 
@@ -17,35 +17,21 @@ Inv-loop s i₀ i = (i ≤ length s) × (blankRun s ≡ i + blankRun (drop i s))
 abbrev μ-loop : tie.MeasureT-loop
 μ-loop s i₀ i = length s - i
 
-loop-holds : tie.Need-loop-holds Inv-loop μ-loop
-loop-holds c = search needs
-
-shared-slice-read-blank : tie.Need-shared-slice-read-blank Inv-loop μ-loop
-shared-slice-read-blank c = search needs
-
-blank-requires : tie.Need-blank-requires Inv-loop μ-loop
-blank-requires c κs = search needs
-
-add-i : tie.Need-add-i Inv-loop μ-loop
-add-i c = omega arith
-
-loop-less : tie.Need-loop-less Inv-loop μ-loop
-loop-less c = omega arith
-
 loop-again : tie.Need-loop-again Inv-loop μ-loop
 loop-again c =
-    let l = c .before .before .before .before .loop in
-    (search needs, blank-goes _ _ _ (c .before .before .before .loop-test .taken) (sym (c .before .blank .ensures) ∙ not-false _ (c .if1 .left)) (l .inv .1))
+    let test = c .before .before .before in
+    (search needs, run-goes blanks _ _ _ (test .before .loop .inv .1) (test .loop-test .taken) (sym (c .before .blank .ensures) ∙ not-false _ (c .if1 .left)))
 
 returns : tie.Need-returns Inv-loop μ-loop
 returns c =
     let l = c .before .loop in
-    (blank-ends _ _ _ (c .loop-test .left) (l .inv .1), l .inv .0)
+    (run-ends blanks _ _ _ (l .inv .1) (c .loop-test .left), l .inv .0)
 
 returns-2 : tie.Need-returns-2 Inv-loop μ-loop
 returns-2 c =
-    let l = c .before .before .before .before .loop in
-    (blank-stops _ _ _ (c .before .before .before .loop-test .taken) (sym (c .before .blank .ensures) ∙ not-true _ (c .if1 .taken)) (l .inv .1), l .inv .0)
+    let test = c .before .before .before in
+    let l = test .before .loop in
+    (run-stops blanks _ _ _ (l .inv .1) (test .loop-test .taken) (sym (c .before .blank .ensures) ∙ not-true _ (c .if1 .taken)), l .inv .0)
 
 pub blanks-spec : {M : Type 1} → statement M
-blanks-spec = tie.close (tie.spec Inv-loop μ-loop loop-holds shared-slice-read-blank blank-requires add-i loop-less loop-again returns returns-2)
+blanks-spec = tie.close (tie.spec Inv-loop μ-loop (search needs) (search needs) (search needs) (λ c. omega arith) (λ c. omega arith) loop-again returns returns-2)

@@ -6,11 +6,7 @@ use Rattle.text.proofs.Runs.{first-holds}
 use Rattle.text.proofs.words.first.Statement.{statement}
 use Rattle.text.proofs.words.first.Tie as tie
 
-slice-aggregate-result : tie.Need-slice-aggregate-result
-slice-aggregate-result c = sym (length-take-le _ _ (c .before .ink .ensures .1))
-
-returns : tie.Need-returns
-returns c = first-holds _ _ _ (c .before .before .begun .ensures) (c .before .ink .ensures .0)
-
 pub first-spec : {M : Type 1} → statement M
-first-spec = tie.close (tie.spec (λ c κs. search needs) (λ c κs. search needs) slice-aggregate-result returns)
+first-spec =
+    tie.close (tie.spec (search needs) (search needs) (λ c. sym (length-take-le _ _ (c .before .ink .ensures .1)))
+    (λ c. first-holds _ _ _ (c .before .before .begun .ensures) (c .before .ink .ensures .0)))

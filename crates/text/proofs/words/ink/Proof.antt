@@ -6,7 +6,7 @@ use mathlib.Core.Path.{_≡_, sym, _∙_}
 use borrow.Author.Needs.{needs}
 use lib.ListN.{length, drop}
 use Rattle.text.specs.Words.{inkRun}
-use Rattle.text.proofs.Runs.{ink-ends, ink-stops, ink-goes}
+use Rattle.text.proofs.Runs.{ink, run-ends, run-stops, run-goes}
 use Rattle.text.proofs.words.ink.Statement.{statement}
 use Rattle.text.proofs.words.ink.Tie as tie
 
@@ -16,35 +16,21 @@ Inv-loop s i₀ i = (i ≤ length s) × (inkRun s ≡ i + inkRun (drop i s))
 abbrev μ-loop : tie.MeasureT-loop
 μ-loop s i₀ i = length s - i
 
-loop-holds : tie.Need-loop-holds Inv-loop μ-loop
-loop-holds c = search needs
-
-shared-slice-read-blank : tie.Need-shared-slice-read-blank Inv-loop μ-loop
-shared-slice-read-blank c = search needs
-
-blank-requires : tie.Need-blank-requires Inv-loop μ-loop
-blank-requires c κs = search needs
-
-add-i : tie.Need-add-i Inv-loop μ-loop
-add-i c = omega arith
-
-loop-less : tie.Need-loop-less Inv-loop μ-loop
-loop-less c = omega arith
-
 loop-again : tie.Need-loop-again Inv-loop μ-loop
 loop-again c =
-    let l = c .before .before .before .before .loop in
-    (search needs, ink-goes _ _ _ (c .before .before .before .loop-test .taken) (sym (c .before .blank .ensures) ∙ c .if1 .left) (l .inv .1))
+    let test = c .before .before .before in
+    (search needs, run-goes ink _ _ _ (test .before .loop .inv .1) (test .loop-test .taken) (sym (c .before .blank .ensures) ∙ c .if1 .left))
 
 returns : tie.Need-returns Inv-loop μ-loop
 returns c =
     let l = c .before .loop in
-    (ink-ends _ _ _ (c .loop-test .left) (l .inv .1), l .inv .0)
+    (run-ends ink _ _ _ (l .inv .1) (c .loop-test .left), l .inv .0)
 
 returns-2 : tie.Need-returns-2 Inv-loop μ-loop
 returns-2 c =
-    let l = c .before .before .before .before .loop in
-    (ink-stops _ _ _ (c .before .before .before .loop-test .taken) (sym (c .before .blank .ensures) ∙ c .if1 .taken) (l .inv .1), l .inv .0)
+    let test = c .before .before .before in
+    let l = test .before .loop in
+    (run-stops ink _ _ _ (l .inv .1) (test .loop-test .taken) (sym (c .before .blank .ensures) ∙ c .if1 .taken), l .inv .0)
 
 pub ink-spec : {M : Type 1} → statement M
-ink-spec = tie.close (tie.spec Inv-loop μ-loop loop-holds shared-slice-read-blank blank-requires add-i loop-less loop-again returns returns-2)
+ink-spec = tie.close (tie.spec Inv-loop μ-loop (search needs) (search needs) (search needs) (λ c. omega arith) (λ c. omega arith) loop-again returns returns-2)

@@ -4,8 +4,7 @@ use Rattle.text.proofs.Runs.{rest-holds}
 use Rattle.text.proofs.words.rest.Statement.{statement}
 use Rattle.text.proofs.words.rest.Tie as tie
 
-returns : tie.Need-returns
-returns c = rest-holds _ _ _ (c .before .before .begun .ensures) (c .before .ink .ensures .0)
-
 pub rest-spec : {M : Type 1} → statement M
-rest-spec = tie.close (tie.spec (λ c κs. search needs) (λ c κs. search needs) (λ c. search needs) (λ c. search needs) (λ c. search needs) returns)
+rest-spec =
+    tie.close (tie.spec (search needs) (search needs) (search needs) (search needs) (search needs)
+    (λ c. rest-holds _ _ _ (c .before .before .begun .ensures) (c .before .ink .ensures .0)))
