@@ -122,14 +122,7 @@ alike store store′ =
           let run = same-run store store′ c p d r k s in
           either-way (leb k 65535)
           (λ h. rw (next-runs store c k p (s .open-here) h, next-runs store′ d k r (s .open-there) h)
-          (record {
-            open-here = s .open-here;
-            open-there = s .open-there;
-            cpu = ap cpuOf run;
-            words = ap (λ (st : SessionState). st .words) run;
-            code = s .code;
-            shared = s .shared;
-          }))
+          (let cpu = ap cpuOf run in let words = ap (λ (st : SessionState). st .words) run in search))
           (λ h. rw (next-16 store c k p (s .open-here) h, next-16 store′ d k r (s .open-there) h) s);
       speak = λ c p d r k s.
           either-way (leb k 65535)
@@ -139,26 +132,10 @@ alike store store′ =
 
 module _ (store store′ : List ℕ) (w w′ : World) (i j : ℕ) where
   seen : Agree store w i store′ w′ j → Seen store store′ (publicOf w) (privateOf i w) (publicOf w′) (privateOf j w′)
-  seen a =
-      record {
-        open-here = a .open-here;
-        open-there = a .open-there;
-        cpu = a .cpu;
-        words = rw (a .open-here, a .open-there) (a .words);
-        code = a .code;
-        shared = a .shared;
-      }
+  seen a = let words : privateOf i w .words ≡ privateOf j w′ .words = rw (a .open-here, a .open-there) (a .words) in search
 
   agree : Seen store store′ (publicOf w) (privateOf i w) (publicOf w′) (privateOf j w′) → Agree store w i store′ w′ j
-  agree s =
-      record {
-        open-here = s .open-here;
-        open-there = s .open-there;
-        cpu = s .cpu;
-        words = rw (s .open-here, s .open-there) at (s .words);
-        code = s .code;
-        shared = s .shared;
-      }
+  agree s = let words : wordsOf w (sessionAt w i) ≡ wordsOf w′ (sessionAt w′ j) = rw (s .open-here, s .open-there) at (s .words) in search
 
 -- ---- all of it
 

@@ -7,19 +7,11 @@ use Prim.Native.Nat.{ℕ, zero, suc, _<_}
 use native.Mathlib.Omega.{arith}
 use lib.ListN.{length, length-map, getD, set, List·getD-eq-default}
 use Rattle.basis.proofs.Bools.{and-fst, and-snd, and-both}
+pub use Rattle.pmachine.proofs.Rows.{either-way, decided}
 use Rattle.sound.specs.Below.{Cpu}
 use Rattle.sound.specs.Bench.{at-cpu}
 use Rattle.sound.specs.Sound.{all, apart, allApart}
 use Rattle.sound.specs.declared.Session.{Session}
-
--- by what a test says, and by what is decided
-pub either-way : {P : Type 0} (b : Bool) → (b ≡ true → P) → (b ≡ false → P) → P
-either-way true f g = f refl
-either-way false f g = g refl
-
-pub decided : {A P : Type 0} → Dec A → (A → P) → ((A → ⊥) → P) → P
-decided (yes a) f g = f a
-decided (no n) f g = g n
 
 module _ {A : Type 0} (p : A → Bool) where
   -- an element of a list that passes
