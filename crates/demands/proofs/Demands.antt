@@ -2,16 +2,14 @@
 -- Above: nothing. Below: basis, operand, turning, promises, isolation, and the witness.
 use mathlib.Core.Path.{_≡_, refl}
 use mathlib.Core.List.{List}
-use Prim.Native.Nat.{ℕ, _+_, _≤_, _<_}
-use lib.ListN.{length}
+use Prim.Native.Nat.{ℕ}
 use Rattle.basis.specs.Checks.{ruling}
 use Rattle.basis.proofs.Checks.{all-pass, pass-all, first-failing, failing-first}
 use Rattle.basis.proofs.Integer.{division, remainder-smaller, remainder-sign}
-use Rattle.operand.specs.Operand.{Form, Fetched, got, out, fetched}
+use Rattle.operand.specs.Operand.{out}
 use Rattle.operand.specs.Reading.{Lies}
 use Rattle.operand.proofs.Operands.{reads}
 use Rattle.segment.specs.Judge.{checks, judged}
-use Rattle.turning.specs.Twin.{Twin}
 use Rattle.turning.proofs.Positions.{turn-as-judged, turn-nine, turn-ten, turn-accepts}
 use Rattle.turning.proofs.Twice.{once, twins}
 use Rattle.turning.proofs.Outputs.{kept, writes, turns-back}
@@ -20,94 +18,22 @@ use Rattle.pmachine.proofs.Frame.{step-kept}
 use Rattle.pmachine.proofs.Keeps.{step-keeps, run-keeps}
 use Rattle.pmachine.proofs.Runs.{run-add, count-add, count-most, count-all}
 use Rattle.sound.specs.Bench.{World}
-use Rattle.promises.specs.Words.{Zeroed, OnlyRecord, Opens, Closes}
+use Rattle.promises.specs.Words.{Zeroed, OnlyRecord}
 use Rattle.promises.proofs.Kept.{new-sound, new-answers}
 use Rattle.promises.proofs.Requests.{answers, unchanged, stays-sound, one-answer}
 use Rattle.promises.proofs.Openings.{fifteen, opened-is}
 use Rattle.promises.proofs.Closings.{closed}
-use Rattle.isolation.specs.Isolation.{Turn, OnItsOwn, Agree}
 use Rattle.isolation.proofs.Theorem.{isolation}
-use Rattle.demands.specs.Demands.{OnlyThere, Opened, Closed, OtherSex, OnItsOwn as Own, Alike, Demands}
+use Rattle.demands.specs.Demands.{OnlyThere, Demands}
 use Rattle.demands.proofs.Cases.{cases, walks}
 use Rattle.demands.proofs.Calls.{calls}
 use Rattle.demands.proofs.Arithmetic.{arithmetic}
 use Rattle.demands.proofs.Marked.{cases-hold}
 use Rattle.demands.proofs.Witness.{witness}
 
--- ---- openings and closings
-
+-- the parts of an opening and a closing, each found by what it says
 only-there : (w v : World) (i a len : ℕ) → Zeroed w v a len → OnlyRecord w v i → OnlyThere w v i a len
-only-there w v i a len z o =
-    record {
-      zero-in = z .zero-in;
-      same-below = z .same-below;
-      same-above = z .same-above;
-      as-long = z .as-long;
-      same-bench = o .same-bench;
-      same-others = o .same-others;
-    }
-
-opened-there : (store : List ℕ) (slot len : ℕ) (w v : World) (i : ℕ) → Opens store slot len w v i → Opened store slot len w v i
-opened-there store slot len w v i o =
-    record {
-      place = o .place;
-      gap = o .gap;
-      lowest-gap = o .lowest-gap;
-      low = o .low;
-      unused = o .unused;
-      lowest-record = o .lowest-record;
-      made = o .made;
-      only = only-there w v i (o .place) len (o .zeroed) (o .only);
-    }
-
-closed-there : (w v : World) (i : ℕ) → Closes w v i → Closed w v i
-closed-there w v i o = record { freed-record = o .freed-record; freed-words = o .freed-words; only = only-there w v i _ _ (o .zeroed) (o .only) }
-
--- ---- operands
-
-there : (f : Form) (s : List ℕ) (at v n : ℕ) → fetched f s at ≡ got v n → (at < n) × (n ≤ at + 2) × (n ≤ length s)
-there f s at v n e = rw e at (reads f s at)
-
-cut : (f : Form) (s : List ℕ) (at p : ℕ) → fetched f s at ≡ out p → at ≤ length s → p ≡ length s
-cut f s at p e = let l : Lies s at (out p) = rw e at (reads f s at) in l .3
-
--- ---- turning
-
-other-sex : (s t : List ℕ) → Twin s t → OtherSex s t
-other-sex s t w =
-    record {
-      size = w .lengths;
-      lows = w .lows;
-      highs = w .highs;
-      others = w .others;
-      sex = w .sexes;
-      same-dict = w .dicts;
-      same-reloc = w .relocs;
-      same-pool = w .pools;
-      same-real = w .reals;
-      same-reserved = (w .reserved-9, w .reserved-10);
-      same-count = w .counts;
-      same-entry = λ k l h. w .routines k l h .entries;
-      same-datasize = λ k l h. w .routines k l h .datasizes;
-      same-exitic = λ k l h. w .routines k l h .exitics;
-      same-start = λ k l h. w .routines k l h .starts;
-      same-positions = w .positions;
-      same-verdict = w .rulings;
-      twice = w .again;
-    }
-
--- ---- sessions
-
-own : (store : List ℕ) (ts : List Turn) (w : World) (i : ℕ) → OnItsOwn store ts w i → Own store ts w i
-own store ts w i o = record { words = o .words; registers = o .registers; answers = o .answers; counts = o .counts }
-
-agree : (store : List ℕ) (w : World) (i : ℕ) (store′ : List ℕ) (w′ : World) (j : ℕ) → Alike store w i store′ w′ j → Agree store w i store′ w′ j
-agree store w i store′ w′ j a =
-    record { open-here = a .open-here; open-there = a .open-there; cpu = a .cpu; words = a .words; code = a .code; shared = a .shared }
-
-alike : (store : List ℕ) (w : World) (i : ℕ) (store′ : List ℕ) (w′ : World) (j : ℕ) → Agree store w i store′ w′ j → Alike store w i store′ w′ j
-alike store w i store′ w′ j a =
-    record { open-here = a .open-here; open-there = a .open-there; cpu = a .cpu; words = a .words; code = a .code; shared = a .shared }
+only-there w v i a len z o = search
 
 judged-is : (s : List ℕ) → judged s ≡ ruling (checks s)
 unfolding judged
@@ -133,11 +59,11 @@ demands =
       new-sound = new-sound;
       stays-sound = stays-sound;
       fifteen = λ store w slot len g ld lk left. fifteen store w slot len g ld lk left;
-      opened = λ store w slot len i g e. opened-there store slot len w _ i (opened-is store w slot len g i e);
-      closed = λ store w i g u. (closed store w i g u .0, closed-there w _ i (closed store w i g u .1));
+      opened = λ store w slot len i g e. let o = opened-is store w slot len g i e in search only-there;
+      closed = λ store w i g u. let o = closed store w i g u in (o .0, search only-there);
       one-answer = one-answer;
-      operand-there = there;
-      operand-cut = cut;
+      operand-there = λ f s at v n e. rw e at (reads f s at);
+      operand-cut = λ f s at p e. let l : Lies s at (out p) = rw e at (reads f s at) in l .3;
       witness = witness;
       lines-in-order = lines-consecutive;
       division = division;
@@ -155,7 +81,28 @@ demands =
       walks = walks;
       arithmetic = arithmetic;
       marked = cases-hold;
-      other-sex = λ s ok none. other-sex s _ (twins s ok none);
+      other-sex = λ s ok none.
+          let w = twins s ok none in
+          record {
+            size = w .lengths;
+            lows = w .lows;
+            highs = w .highs;
+            others = w .others;
+            sex = w .sexes;
+            same-dict = w .dicts;
+            same-reloc = w .relocs;
+            same-pool = w .pools;
+            same-real = w .reals;
+            same-reserved = (w .reserved-9, w .reserved-10);
+            same-count = w .counts;
+            same-entry = λ k l h. w .routines k l h .entries;
+            same-datasize = λ k l h. w .routines k l h .datasizes;
+            same-exitic = λ k l h. w .routines k l h .exitics;
+            same-start = λ k l h. w .routines k l h .starts;
+            same-positions = w .positions;
+            same-verdict = w .rulings;
+            twice = w .again;
+          };
       turns-back = λ s a b h ea eb. (turns-back s a b h ea eb .accepted-again, turns-back s a b h ea eb .restored);
       once = once .both-rules;
       turns-stay-sound = isolation .stays-sound;
@@ -164,10 +111,8 @@ demands =
       one-after-another-answers = isolation .one-after-another-answers;
       in-any-order = isolation .in-any-order;
       same-answers = isolation .same-answers;
-      on-its-own = λ store ts w g i u. own store ts w i (isolation .on-its-own store ts w g i u);
+      on-its-own = λ store ts w g i u. let o = isolation .on-its-own store ts w g i u in search;
       not-open = isolation .not-open;
-      two-runs = λ store store′ ts us w w′ i j g h m a. isolation .two-runs store store′ ts us w w′ i j g h m (agree store w i store′ w′ j a);
-      two-ends =
-          λ store store′ ts us w w′ i j g h m a.
-          alike store _ i store′ _ j (isolation .two-ends store store′ ts us w w′ i j g h m (agree store w i store′ w′ j a));
+      two-runs = λ store store′ ts us w w′ i j g h m a. isolation .two-runs store store′ ts us w w′ i j g h m search;
+      two-ends = λ store store′ ts us w w′ i j g h m a. let o = isolation .two-ends store store′ ts us w w′ i j g h m search in search;
     }

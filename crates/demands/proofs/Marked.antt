@@ -17,6 +17,9 @@ use Rattle.pmachine.specs.Run.{isReady, written, settled, step, run, stepsDone}
 use Rattle.demands.specs.Marked.{All, after, cutShort, afterCut, marked-cases}
 
 pub cases-hold : All marked-cases
-unfolding marked-cases after cutShort afterCut minus inside modulo integerOf wordOf unary binary addOf mulOf quotOf remOf wordBy ifThere signed fetched least word dict count entry datasize start pool small smallTurned frame framed position other listOf swapByte swapAt turned opcode rowIn appendixB joined andThen operands lawful allLawful decodedWith rowDecoded decode follow reached wordAt target markAt resumes groundFor firstFault asks effect outcome judgedBy judge starting opened isReady written settled step run stepsDone
+unfolding marked-cases after cutShort afterCut minus inside modulo integerOf wordOf unary binary addOf mulOf quotOf remOf wordBy ifThere signed
+    fetched least word dict count entry datasize start pool small smallTurned frame framed position other listOf swapByte swapAt turned opcode rowIn
+    appendixB joined andThen operands lawful allLawful decodedWith rowDecoded decode follow reached wordAt target markAt resumes groundFor firstFault
+    asks effect outcome judgedBy judge starting opened isReady written settled step run stepsDone
 cases-hold =
     (refl, (refl, (refl, (refl, (refl, ((refl, refl), (refl, (refl, (refl, (refl, (refl, (refl, (refl, ((refl, refl), ((refl, refl), (refl, tt))))))))))))))))

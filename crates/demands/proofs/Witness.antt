@@ -1,8 +1,6 @@
 -- `witness` is a proof of what specs/Witness says: soundness by the promises, all else by computing the definitions.
 -- Above: nothing. Below: promises, and every definition that the computation opens.
 use mathlib.Core.Path.{_≡_, refl}
-use mathlib.Core.List.{List, [], _∷_, _++_}
-use Prim.Native.Nat.{ℕ}
 use lib.ListN.{replicate}
 use Rattle.basis.specs.Bools.{every, inside}
 use Rattle.basis.specs.Part.{part, splice}
@@ -17,9 +15,9 @@ use Rattle.pmachine.specs.Step.{markAt, resumes, groundFor, firstFault, asks, e
 use Rattle.pmachine.specs.Sound.{kindInRange, inRange, starting}
 use Rattle.pmachine.specs.Run.{isReady, written, settled, step, run, stepsDone}
 use Rattle.session.specs.Session.{startOf, cpuOk, runOf, countOf}
-use Rattle.sound.specs.Bench.{World, worldOf}
+use Rattle.sound.specs.Bench.{worldOf}
 use Rattle.sound.specs.Sound.{limitsOk, slotOk, placed, apart, sessionOk, soundB, Sound}
-use Rattle.entry.specs.Answer.{answerRuling, ruled, refusing}
+use Rattle.entry.specs.Answer.{answerRuling, refusing}
 use Rattle.entry.specs.Entries.{newOf, loadOf, lenOk, gapAt, gapOf, openOf, turnOf, closeOf}
 use Rattle.promises.specs.Requests.{loading, opening, turning}
 use Rattle.promises.proofs.Kept.{new-sound}
@@ -45,7 +43,11 @@ ran-sound =
     (stays-sound store (loading 0 0 32) _ made-sound))))))
 
 pub witness : Witness
-unfolding segment store loaded opened ran openings full every inside part splice wordBy ifThere fetched least word dict reloc pool count entry datasize exitic start sexBytes headChecks routineChecks routinesFrom checks ruling judged opcode rowIn appendixB joined andThen operands lawful allLawful decodedWith rowDecoded decode markAt resumes groundFor firstFault asks effect outcome judgedBy judge kindInRange inRange starting isReady written settled step run stepsDone startOf cpuOk runOf countOf limitsOk slotOk placed apart sessionOk soundB refusing newOf loadOf lenOk gapAt gapOf openOf turnOf closeOf
+unfolding segment store loaded opened ran openings full every inside part splice wordBy ifThere fetched least word dict reloc pool count entry
+    datasize exitic start sexBytes headChecks routineChecks routinesFrom checks ruling judged opcode rowIn appendixB joined andThen operands lawful
+    allLawful decodedWith rowDecoded decode markAt resumes groundFor firstFault asks effect outcome judgedBy judge kindInRange inRange starting
+    isReady written settled step run stepsDone startOf cpuOk runOf countOf limitsOk slotOk placed apart sessionOk soundB refusing newOf loadOf lenOk
+    gapAt gapOf openOf turnOf closeOf
 witness =
     record {
       sound = ran-sound;

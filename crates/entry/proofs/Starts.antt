@@ -9,7 +9,7 @@ use native.Mathlib.Decide.{decLt}
 use lib.Dec.{leb}
 use lib.ListN.{length, getD}
 use borrow.Author.Tests.{le-leb, lt-leb, leb-true, eqb-true}
-use Rattle.basis.specs.Checks.{Check, check, Ruling, passed, refused, ruling}
+use Rattle.basis.specs.Checks.{Check, check, passed, refused, ruling}
 use Rattle.basis.proofs.Bools.{both-true}
 use Rattle.basis.proofs.Checks.{needed}
 use Rattle.segment.specs.declared.Verdict.{Verdict}
@@ -19,7 +19,7 @@ use Rattle.sound.specs.declared.Session.{Session}
 use Rattle.sound.specs.declared.Slot.{Slot}
 use Rattle.sound.specs.Bench.{noSlot, noSession, slotAt, World, sessionAt}
 use Rattle.sound.specs.Sound.{all, placed}
-use Rattle.sound.proofs.Lists.{length-mapped, past-end}
+use Rattle.sound.proofs.Lists.{decided, length-mapped, past-end}
 use Rattle.sound.proofs.Facts.{Opened, opened, Limits, limits, taken-apart}
 use Rattle.entry.specs.Entries.{isSound, loadedAt, openAt, begins}
 use Rattle.entry.proofs.Refusing.{refused-first}
@@ -69,12 +69,9 @@ guarded store w named asked v h e = record { refuses = λ ds n p f. refused-firs
 -- ---- what is named, by its own record; f is how a program holds the sixteen
 
 module _ {A X : Type 0} (p : A → Bool) (f : A → X) (l : List A) (i : ℕ) (d : A) (o : length (map f l) ≡ 16) (n : p d ≡ false) (x : A) (e : x ≡ getD l i d) where
-  in-by : Dec (15 < i) → p (getD l i d) ≡ (leb i 15 && p (getD l i d))
-  in-by (yes h) = rw (lt-leb i 15 h) (ap p (sym (past-end f l i d o h)) ∙ n)
-  in-by (no h) = rw (le-leb i 15 (omega arith))
-
   in-sixteen : p x ≡ (leb i 15 && p (getD l i d))
-  in-sixteen = ap p e ∙ in-by (decLt 15 i)
+  in-sixteen = rw e
+      (decided (decLt 15 i) (λ h. rw (lt-leb i 15 h) (ap p (sym (past-end f l i d o h)) ∙ n)) (λ h. rw (le-leb i 15 (omega arith))))
 
 module _ {X : Type 0} (store : List ℕ) (w : World) (i : ℕ) (v : Verdict) where
   pub slot-guarded : (f : Slot → X) → length (map f (w .bench .slots)) ≡ 16 → (sl : Slot) → sl ≡ slotAt (w .bench .slots) i → rulingOf v ≡ ruling (begins store w (sl .loaded))

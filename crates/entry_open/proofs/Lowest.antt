@@ -1,6 +1,6 @@
 -- The first record that passes, and the lowest gap: what the loops of gaps find is what the definitions search for.
 -- Above: the proofs of gaps and of opening, promises. Below: `firstPlace`, `lowest` and `gapAt` of entry's Entries.
-use mathlib.Core.Path.{_≡_, refl, sym, ap, _∙_}
+use mathlib.Core.Path.{_≡_, refl, sym, _∙_}
 use mathlib.Core.List.{List, [], _∷_}
 use mathlib.Core.Bool.{Bool, true, false, cond, _&&_, _||_, not}
 use Prim.Native.Nat.{ℕ, zero, suc, _+_, _-_, _≤_, _<_}
@@ -21,17 +21,20 @@ use Rattle.entry.specs.declared.Gap.the-variants.{At, Full}
 
 -- ---- the first that passes: a loop that came to i, and what stands at the place that is found
 
-module _ {A : Type 0} (p : A → Bool) (l : List A) (i : ℕ) (inv : firstPlace p l ≡ firstPlace p (drop i l) + i) where
-  pub first-found : (d : A) → i < length l → p (getD l i d) ≡ true → i ≡ firstPlace p l
-  first-found d h e = let q : firstPlace p (drop i l) ≡ 0 = rw (drop-cons l i d h, e) in omega arith
+module _ {A : Type 0} (p : A → Bool) (l : List A) (i : ℕ) (size : length l ≡ 16) (inv : firstPlace p l ≡ firstPlace p (drop i l) + i) where
+  pub first-found : (d : A) → i < 16 → p (getD l i d) ≡ true → i ≡ firstPlace p l
+  first-found d h e = let q : firstPlace p (drop i l) ≡ 0 = rw (drop-cons l i d (omega arith), e) in omega arith
 
-  pub first-next : (d : A) → i < length l → p (getD l i d) ≡ false → firstPlace p l ≡ firstPlace p (drop (i + 1) l) + (i + 1)
+  pub first-next : (d : A) → i < 16 → p (getD l i d) ≡ false → firstPlace p l ≡ firstPlace p (drop (i + 1) l) + (i + 1)
   first-next d h e =
-      let q : firstPlace p (drop i l) ≡ firstPlace p (drop (i + 1) l) + 1 = rw (drop-cons l i d h, e, add-one i) in
+      let q : firstPlace p (drop i l) ≡ firstPlace p (drop (i + 1) l) + 1 = rw (drop-cons l i d (omega arith), e, add-one i) in
       omega arith
 
-  pub first-none : (n : ℕ) → i ≡ n → length l ≤ i → n ≡ firstPlace p l
-  first-none n e h = let q : firstPlace p (drop i l) ≡ 0 = rw (drop-of-length-le l h) in omega arith
+  pub first-none : i ≡ 16 → 16 ≡ firstPlace p l
+  first-none h =
+      let o : length l ≤ i = omega arith in
+      let q : firstPlace p (drop i l) ≡ 0 = rw (drop-of-length-le l o) in
+      omega arith
 
 pub first-at : {A : Type 0} (p : A → Bool) (l : List A) (d : A) → firstPlace p l < length l → p (getD l (firstPlace p l) d) ≡ true
 first-at p [] d h = absurd (omega arith)

@@ -30,16 +30,13 @@ module _ {Q : Type 0} where
   mine-past : (i n : ℕ) (ts : List (By Q)) → n ≤ i → mine i (oneByOne n ts) ≡ []
   mine-past i zero ts h = refl
   mine-past i (suc n) ts h =
-      mine-++ i (oneByOne n ts) (of n (mine n ts))
-      ∙ rw (mine-past i n ts (omega arith)) (mine-of-other i n (mine n ts) (omega arith))
+      rw (mine-++ i (oneByOne n ts) (of n (mine n ts)), mine-past i n ts (omega arith)) (mine-of-other i n (mine n ts) (omega arith))
 
   mine-last : (i n : ℕ) (ts : List (By Q)) → i < suc n → Dec (i ≡ n) → (i < n → mine i (oneByOne n ts) ≡ mine i ts) → mine i (oneByOne (suc n) ts) ≡ mine i ts
   mine-last i n ts h (yes e) r =
-      mine-++ i (oneByOne n ts) (of n (mine n ts))
-      ∙ rw (← e, mine-past i i ts (omega arith)) (mine-of i (mine i ts))
+      rw (mine-++ i (oneByOne n ts) (of n (mine n ts)), ← e, mine-past i i ts (omega arith)) (mine-of i (mine i ts))
   mine-last i n ts h (no d) r =
-      mine-++ i (oneByOne n ts) (of n (mine n ts))
-      ∙ rw (r (omega arith), mine-of-other i n (mine n ts) d) (append-nil (mine i ts))
+      rw (mine-++ i (oneByOne n ts) (of n (mine n ts)), r (omega arith), mine-of-other i n (mine n ts) d) (append-nil (mine i ts))
 
   mine-oneByOne : (i n : ℕ) (ts : List (By Q)) → i < n → mine i (oneByOne n ts) ≡ mine i ts
   mine-oneByOne i zero ts h = absurd (omega arith)

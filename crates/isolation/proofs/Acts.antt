@@ -1,27 +1,27 @@
 -- A turn of k steps as a function of what is shared and the session's own; and that this is what `turnOf` says, in a sound world.
 -- So turns are requests in the sense of interleave: `turns`. Above: Theorem. Below: Parts, Whole, bench's laws of a turn.
 use mathlib.Core.Path.{_≡_, refl, sym, ap, _∙_}
-use mathlib.Core.List.{List, [], _∷_}
+use mathlib.Core.List.{List}
 use mathlib.Core.Bool.{Bool, true, false, cond, _&&_, and-false}
-use Prim.Native.Nat.{ℕ, _+_, _-_, _≤_, _<_}
+use Prim.Native.Nat.{ℕ, _+_, _-_}
 use native.Mathlib.Omega.{arith}
-use native.Mathlib.Decide.{decLt}
 use lib.Dec.{leb}
 use lib.ListN.{length}
 use borrow.Author.Tests.{le-leb}
 use Rattle.basis.proofs.Bools.{cond-holds}
 use Rattle.basis.proofs.Part.{length-part}
 use Rattle.interleave.specs.Interleave.{Isolated}
-use Rattle.sound.specs.Below.{SessionState, stateOf, cpuOf, cpuOk, runOf, countOf}
+use Rattle.sound.specs.Below.{cpuOf, cpuOk, runOf, countOf}
 use Rattle.sound.specs.Bench.{codeOf, slotOf, World, sessionAt, sharedOf, wordsOf, codeAt, stateAt}
 use Rattle.sound.specs.Sound.{Sound}
 use Rattle.sound.proofs.Below.{run-keeps, run-length}
-use Rattle.sound.proofs.Facts.{Opened, opened, used-below}
+use Rattle.sound.proofs.Lists.{either-way}
+use Rattle.sound.proofs.Facts.{opened, used-below}
 use Rattle.entry.specs.declared.Answer.{Answer}
 use Rattle.entry.specs.declared.Answer.the-variants.{Done, Refused}
 use Rattle.basis.specs.Checks.{passed, refused, ruling}
 use Rattle.entry.specs.Answer.{Result, done, refusedAt, ruled, refusing}
-use Rattle.entry.specs.Entries.{openAt, put, ranOf, doneOf, turnOf}
+use Rattle.entry.specs.Entries.{put, ranOf, doneOf, turnOf}
 use Rattle.isolation.proofs.Parts.{Public, Private, publicOf, privateOf, ownState, at-state, put-own, put-other, put-public, put-good}
 use Rattle.isolation.proofs.Whole.{same-world}
 
@@ -75,102 +75,73 @@ module _ (store : List ℕ) (c : Public) (k : ℕ) (p : Private) where
   says-12 u = rw u
 
 module _ (store : List ℕ) (i k : ℕ) (w : World) (g : Sound store w) where
-  low-by : Dec (i < 16) → (leb i 15 && sessionAt w i .used) ≡ sessionAt w i .used
-  low-by (yes h) = rw (le-leb i 15 (omega arith))
-  low-by (no h) = go (sessionAt w i .used) refl
-    where
-      go : (b : Bool) → sessionAt w i .used ≡ b → (leb i 15 && sessionAt w i .used) ≡ sessionAt w i .used
-      go true u = absurd (h (used-below store w g i u))
-      go false u = rw u (and-false (leb i 15))
+  low : (leb i 15 && sessionAt w i .used) ≡ sessionAt w i .used
+  low =
+      either-way (sessionAt w i .used)
+      (λ u. let h = used-below store w g i u in rw (le-leb i 15 (omega arith)))
+      (λ u. rw u (and-false (leb i 15)))
 
   -- in a sound world, what a turn comes to is read off the session's own record
-  pub turn-good : turnOf store i k w ≡ cond (sessionAt w i .used) (cond (leb k 65535) (done (doneOf store i k w) (put i (ranOf store i k w) w)) (refusedAt 16 0 w)) (refusedAt 12 0 w)
+  turn-good : turnOf store i k w
+      ≡ cond (sessionAt w i .used) (cond (leb k 65535) (done (doneOf store i k w) (put i (ranOf store i k w) w)) (refusedAt 16 0 w)) (refusedAt 12 0 w)
   unfolding turnOf refusing ruling
-  turn-good = rw (g .sound, low-by (decLt i 16)) (go (sessionAt w i .used) (leb k 65535) _)
+  turn-good = rw (g .sound, low) (go (sessionAt w i .used) (leb k 65535) _)
     where
-      go : (u few : Bool) (x : Result) → ruled (cond u (cond few passed (refused 16 0)) (refused 12 0)) w x ≡ cond u (cond few x (refusedAt 16 0 w)) (refusedAt 12 0 w)
+      go : (u few : Bool) (x : Result)
+          → ruled (cond u (cond few passed (refused 16 0)) (refused 12 0)) w x ≡ cond u (cond few x (refusedAt 16 0 w)) (refusedAt 12 0 w)
       go true true x = refl
       go true false x = refl
       go false few x = refl
 
-  turn-12 : sessionAt w i .used ≡ false → turnOf store i k w ≡ refusedAt 12 0 w
-  turn-12 u = turn-good ∙ rw u
-
-  turn-16 : sessionAt w i .used ≡ true → leb k 65535 ≡ false → turnOf store i k w ≡ refusedAt 16 0 w
-  turn-16 u h = turn-good ∙ rw (u, h)
-
-  pub turn-runs : sessionAt w i .used ≡ true → leb k 65535 ≡ true → turnOf store i k w ≡ done (doneOf store i k w) (put i (ranOf store i k w) w)
-  turn-runs u h = turn-good ∙ rw (u, h)
-
   pub own-state-is : sessionAt w i .used ≡ true → ownState (privateOf i w) ≡ stateAt w i
-  own-state-is u = ap (λ (ws : List ℕ). stateOf ws (sessionAt w i .cpu)) (rw u)
+  own-state-is u = rw u
 
   pub ran-is : sessionAt w i .used ≡ true → runOf k (codeAt store w i) (sharedOf w) (ownState (privateOf i w)) ≡ ranOf store i k w
-  ran-is u =
-      ap (runOf k (codeAt store w i) (sharedOf w)) (own-state-is u)
+  ran-is u = rw u
+
+  own-long : sessionAt w i .used ≡ true → length (wordsOf w (sessionAt w i)) ≡ sessionAt w i .len
+  own-long u =
+      length-part (sessionAt w i .base) (sessionAt w i .base + sessionAt w i .len) (w .mem) (omega arith) (opened store w g i u .inside) ∙ omega arith
 
   ran-long : sessionAt w i .used ≡ true → length (ranOf store i k w .words) ≡ sessionAt w i .len
-  ran-long u =
-      run-length k (codeAt store w i) (sharedOf w) (stateAt w i)
-      ∙ length-part (sessionAt w i .base) (sessionAt w i .base + sessionAt w i .len) (w .mem) (omega arith) (opened store w g i u .inside)
-      ∙ omega arith
+  ran-long u = run-length k (codeAt store w i) (sharedOf w) (stateAt w i) ∙ own-long u
 
   ran-ok : sessionAt w i .used ≡ true → cpuOk (codeAt store w i) (sessionAt w i .len) (cpuOf (ranOf store i k w)) ≡ true
   ran-ok u =
       let f = opened store w g i u in
-      let e : sessionAt w i .base + sessionAt w i .len - sessionAt w i .base ≡ sessionAt w i .len = omega arith in
-      run-keeps k (codeAt store w i) (sharedOf w) (sessionAt w i .len) (stateAt w i)
-      (f .checked) (f .most)
-      (length-part (sessionAt w i .base) (sessionAt w i .base + sessionAt w i .len) (w .mem) (omega arith) (f .inside) ∙ e)
-      (f .cpu-ok)
+      run-keeps k (codeAt store w i) (sharedOf w) (sessionAt w i .len) (stateAt w i) (f .checked) (f .most) (own-long u) (f .cpu-ok)
 
   -- a turn on its answer and its end: refused with nothing changed, or the machine's run
-  turn-cases : (P : Result → Type 0) → P (refusedAt 12 0 w) → P (refusedAt 16 0 w) → (sessionAt w i .used ≡ true → leb k 65535 ≡ true → P (done (doneOf store i k w) (put i (ranOf store i k w) w))) → P (turnOf store i k w)
-  turn-cases P p q r =
-      rw turn-good
-      (cond-holds P (sessionAt w i .used) (λ u. cond-holds P (leb k 65535) (λ h. r u h) (λ _. q)) (λ _. p))
+  turn-cases : (P : Result → Type 0) → (sessionAt w i .used ≡ false → P (refusedAt 12 0 w))
+      → (sessionAt w i .used ≡ true → leb k 65535 ≡ false → P (refusedAt 16 0 w))
+      → (sessionAt w i .used ≡ true → leb k 65535 ≡ true → P (done (doneOf store i k w) (put i (ranOf store i k w) w)))
+      → P (turnOf store i k w)
+  turn-cases P p q r = rw turn-good (cond-holds P (sessionAt w i .used) (λ u. cond-holds P (leb k 65535) (r u) (q u)) p)
 
   pub turn-good-kept : Sound store (turned store i k w)
   turn-good-kept =
-      turn-cases (λ r. Sound store (r .world)) g g
-      (λ u h. put-good store w g i u (ranOf store i k w) (ran-long u) (ran-ok u))
+      turn-cases (λ r. Sound store (r .world)) (λ _. g) (λ _ _. g) (λ u _. put-good store w g i u (ranOf store i k w) (ran-long u) (ran-ok u))
 
   pub turn-public : publicOf (turned store i k w) ≡ publicOf w
   turn-public =
-      turn-cases (λ r. publicOf (r .world) ≡ publicOf w) refl refl
-      (λ u h. put-public store w g i u (ranOf store i k w) (ran-long u))
+      turn-cases (λ r. publicOf (r .world) ≡ publicOf w) (λ _. refl) (λ _ _. refl) (λ u _. put-public store w g i u (ranOf store i k w) (ran-long u))
 
   pub turn-other : (j : ℕ) → (j ≡ i → ⊥) → privateOf j (turned store i k w) ≡ privateOf j w
   turn-other j d =
-      turn-cases (λ r. privateOf j (r .world) ≡ privateOf j w) refl refl
-      (λ u h. put-other store w g i u (ranOf store i k w) (ran-long u) j d)
-
-  own-by : (b : Bool) → sessionAt w i .used ≡ b → (c : Bool) → leb k 65535 ≡ c → privateOf i (turned store i k w) ≡ nextOf store (publicOf w) k (privateOf i w)
-  own-by true u true h =
-      ap (λ (r : Result). privateOf i (r .world)) (turn-runs u h)
-      ∙ put-own store w g i u (ranOf store i k w) (ran-long u)
-      ∙ sym (ap (at-state (privateOf i w)) (ran-is u))
-      ∙ sym (next-runs store (publicOf w) k (privateOf i w) u h)
-  own-by true u false h =
-      ap (λ (r : Result). privateOf i (r .world)) (turn-16 u h) ∙ sym (next-16 store (publicOf w) k (privateOf i w) u h)
-  own-by false u c h =
-      ap (λ (r : Result). privateOf i (r .world)) (turn-12 u) ∙ sym (next-12 store (publicOf w) k (privateOf i w) u)
+      turn-cases (λ r. privateOf j (r .world) ≡ privateOf j w) (λ _. refl) (λ _ _. refl)
+      (λ u _. put-other store w g i u (ranOf store i k w) (ran-long u) j d)
 
   pub turn-own : privateOf i (turned store i k w) ≡ nextOf store (publicOf w) k (privateOf i w)
-  turn-own = own-by (sessionAt w i .used) refl (leb k 65535) refl
-
-  said-by : (b : Bool) → sessionAt w i .used ≡ b → (c : Bool) → leb k 65535 ≡ c → answered store i k w ≡ saysOf store (publicOf w) k (privateOf i w)
-  said-by true u true h =
-      ap (λ (r : Result). r .answer) (turn-runs u h)
-      ∙ sym (ap (λ (s : SessionState). Done (countOf k (codeAt store w i) (sharedOf w) s)) (own-state-is u))
-      ∙ sym (says-runs store (publicOf w) k (privateOf i w) u h)
-  said-by true u false h =
-      ap (λ (r : Result). r .answer) (turn-16 u h) ∙ sym (says-16 store (publicOf w) k (privateOf i w) u h)
-  said-by false u c h =
-      ap (λ (r : Result). r .answer) (turn-12 u) ∙ sym (says-12 store (publicOf w) k (privateOf i w) u)
+  turn-own =
+      let c = publicOf w in
+      let p = privateOf i w in
+      turn-cases (λ r. privateOf i (r .world) ≡ nextOf store c k p) (λ u. sym (next-12 store c k p u)) (λ u h. sym (next-16 store c k p u h))
+      (λ u h. put-own store w g i u (ranOf store i k w) (ran-long u) ∙ ap (at-state p) (sym (ran-is u)) ∙ sym (next-runs store c k p u h))
 
   pub turn-said : answered store i k w ≡ saysOf store (publicOf w) k (privateOf i w)
-  turn-said = said-by (sessionAt w i .used) refl (leb k 65535) refl
+  unfolding saysOf
+  turn-said =
+      turn-cases (λ r. r .answer ≡ saysOf store (publicOf w) k (privateOf i w)) (λ u. rw u) (λ u h. rw (u, h)) (λ u h. rw (u, h))
 
 -- turns are requests of sessions that see what is shared and what is their own
 abbrev pub turns : List ℕ → Isolated World Public Private ℕ Answer

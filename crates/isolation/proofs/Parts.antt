@@ -1,8 +1,8 @@
 -- What is shared and what is a session's own, of a bench with its memory; and that a state put into one session changes nothing else.
 -- Above: Acts. Below: bench's `put`, sound's facts of two open sessions.
-use mathlib.Core.Path.{_≡_, refl, sym, ap, _∙_, fun-ext}
-use mathlib.Core.List.{List, [], _∷_}
-use mathlib.Core.Bool.{Bool, true, false, cond, _||_, not}
+use mathlib.Core.Path.{_≡_, refl, sym, _∙_, fun-ext}
+use mathlib.Core.List.{List, []}
+use mathlib.Core.Bool.{Bool, true, cond, _||_, not}
 use Prim.Native.Nat.{ℕ, _+_, _-_, _≤_, _<_}
 use native.Mathlib.Omega.{arith}
 use lib.Dec.{leb, ltb}
@@ -17,8 +17,8 @@ use Rattle.sound.specs.Bench.{noSession, World, sessionAt, sharedOf, wordsOf, c
 use Rattle.sound.specs.Sound.{all, Sound}
 use Rattle.sound.specs.declared.Slot.{Slot}
 use Rattle.sound.specs.declared.Session.{Session}
-use Rattle.sound.proofs.Lists.{all-at, all-set}
-use Rattle.sound.proofs.Facts.{Opened, opened, used-in, apart-good, registers-good}
+use Rattle.sound.proofs.Lists.{either-way, all-at, all-set}
+use Rattle.sound.proofs.Facts.{opened, used-in, apart-good, registers-good}
 use Rattle.entry.specs.Entries.{put}
 
 -- word j is in no region of this session
@@ -60,51 +60,53 @@ ownState p = stateOf (p .words) (p .rec .cpu)
 abbrev pub at-state : Private → SessionState → Private
 at-state p st = record { rec = at-cpu (p .rec) (cpuOf st); words = st .words }
 
-pub ap₃ : {A B C D : Type 0} (f : A → B → C → D) {a a′ : A} {b b′ : B} {c c′ : C} → a ≡ a′ → b ≡ b′ → c ≡ c′ → f a b c ≡ f a′ b′ c′
-ap₃ f p q r i = f (p i) (q i) (r i)
-
 module _ (store : List ℕ) (w : World) (g : Sound store w) (i : ℕ) (u : sessionAt w i .used ≡ true) where
-  o : sessionAt w i .base ≤ sessionAt w i .base + sessionAt w i .len
+  -- the region is the words from base up to end
+  abbrev base : ℕ
+  base = sessionAt w i .base
+
+  abbrev end : ℕ
+  end = sessionAt w i .base + sessionAt w i .len
+
+  o : base ≤ end
   o = omega arith
 
-  fits : sessionAt w i .base + sessionAt w i .len ≤ length (w .mem)
+  fits : end ≤ length (w .mem)
   fits = opened store w g i u .inside
 
   module _ (st : SessionState) (l : length (st .words) ≡ sessionAt w i .len) where
-    l′ : length (st .words) ≡ sessionAt w i .base + sessionAt w i .len - sessionAt w i .base
+    l′ : length (st .words) ≡ end - base
     l′ = omega arith
 
     same-rec : sessionAt (put i st w) i ≡ at-cpu (sessionAt w i) (cpuOf st)
-    same-rec =
-        getD-set-same (w .bench .sessions) i (at-cpu (sessionAt w i) (cpuOf st)) noSession
-        (used-in store w g i u)
+    same-rec = getD-set-same (w .bench .sessions) i (at-cpu (sessionAt w i) (cpuOf st)) noSession (used-in store w g i u)
 
     words-own : cond (sessionAt w i .used) (wordsOf (put i st w) (sessionAt w i)) [] ≡ st .words
     words-own =
-        rw u (part-splice (sessionAt w i .base) (sessionAt w i .base + sessionAt w i .len) (w .mem) o fits (st .words) l′)
+        rw u (part-splice base end (w .mem) o fits (st .words) l′)
 
     -- what was put is there
     pub put-own : privateOf i (put i st w) ≡ at-state (privateOf i w) st
-    put-own =
-        rw same-rec (ap (λ (ws : List ℕ). record { rec = at-cpu (sessionAt w i) (cpuOf st); words = ws }) words-own)
+    put-own = rw (same-rec, words-own)
 
     other-rec : (j : ℕ) → (j ≡ i → ⊥) → sessionAt (put i st w) j ≡ sessionAt w j
     other-rec j d = getD-set-other (w .bench .sessions) i j (at-cpu (sessionAt w i) (cpuOf st)) noSession d
 
     -- a word outside the region is as it was
-    put-below : (j : ℕ) → j < sessionAt w i .base → getD (put i st w .mem) j 0 ≡ getD (w .mem) j 0
+    put-below : (j : ℕ) → j < base → getD (put i st w .mem) j 0 ≡ getD (w .mem) j 0
     put-below j h =
-        getD-below (sessionAt w i .base) (sessionAt w i .base + sessionAt w i .len) (w .mem) o fits (st .words) l′ j h
+        getD-below base end (w .mem) o fits (st .words) l′ j h
 
-    put-above : (j : ℕ) → sessionAt w i .base + sessionAt w i .len ≤ j → getD (put i st w .mem) j 0 ≡ getD (w .mem) j 0
+    put-above : (j : ℕ) → end ≤ j → getD (put i st w .mem) j 0 ≡ getD (w .mem) j 0
     put-above j h =
-        getD-above (sessionAt w i .base) (sessionAt w i .base + sessionAt w i .len) (w .mem) o fits (st .words) l′ j h
+        getD-above base end (w .mem) o fits (st .words) l′ j h
 
     put-long : length (put i st w .mem) ≡ length (w .mem)
-    put-long = length-splice (sessionAt w i .base) (sessionAt w i .base + sessionAt w i .len) (w .mem) o fits (st .words) l′
+    put-long = length-splice base end (w .mem) o fits (st .words) l′
 
     -- a part that ends by the region's start, or starts from its end on, is as it was
-    part-kept : (a f : ℕ) → a ≤ f → f ≤ length (w .mem) → ((k : ℕ) → a ≤ k → k < f → getD (put i st w .mem) k 0 ≡ getD (w .mem) k 0) → part a f (put i st w .mem) ≡ part a f (w .mem)
+    part-kept : (a f : ℕ) → a ≤ f → f ≤ length (w .mem) → ((k : ℕ) → a ≤ k → k < f → getD (put i st w .mem) k 0 ≡ getD (w .mem) k 0)
+        → part a f (put i st w .mem) ≡ part a f (w .mem)
     part-kept a f o₁ o₂ h =
         let o₃ : f ≤ length (put i st w .mem) = rw put-long o₂ in
         ext-getD 0 (part a f (put i st w .mem)) (part a f (w .mem))
@@ -116,19 +118,12 @@ module _ (store : List ℕ) (w : World) (g : Sound store w) (i : ℕ) (u : sessi
     words-other : (j : ℕ) → (j ≡ i → ⊥) → sessionAt w j .used ≡ true → wordsOf (put i st w) (sessionAt w j) ≡ wordsOf w (sessionAt w j)
     words-other j d uj =
         let f = opened store w g j uj .inside in
-        apart-good store w g i j d u uj
-        (λ h. part-kept (sessionAt w j .base) (sessionAt w j .base + sessionAt w j .len) (omega arith) f (λ k p q. put-above k (omega arith)))
-        (λ h. part-kept (sessionAt w j .base) (sessionAt w j .base + sessionAt w j .len) (omega arith) f (λ k p q. put-below k (omega arith)))
-
-    words-by : (j : ℕ) → (j ≡ i → ⊥) → (b : Bool) → sessionAt w j .used ≡ b → cond b (wordsOf (put i st w) (sessionAt w j)) [] ≡ cond b (wordsOf w (sessionAt w j)) []
-    words-by j d true uj = words-other j d uj
-    words-by j d false uj = refl
+        let kept = part-kept (sessionAt w j .base) (sessionAt w j .base + sessionAt w j .len) (omega arith) f in
+        apart-good store w g i j d u uj (λ h. kept (λ k p q. put-above k (omega arith))) (λ h. kept (λ k p q. put-below k (omega arith)))
 
     -- every other session's own is as it was
     pub put-other : (j : ℕ) → (j ≡ i → ⊥) → privateOf j (put i st w) ≡ privateOf j w
-    put-other j d =
-        rw (other-rec j d)
-        (ap (λ (ws : List ℕ). record { rec = sessionAt w j; words = ws }) (words-by j d (sessionAt w j .used) refl))
+    put-other j d = rw (other-rec j d) (either-way (sessionAt w j .used) (λ uj. rw (words-other j d uj)) (λ uj. rw uj))
 
     clear-kept : (j : ℕ) → all (clear j) (put i st w .bench .sessions) ≡ all (clear j) (w .bench .sessions)
     clear-kept j = all-set (clear j) (w .bench .sessions) i noSession (at-cpu (sessionAt w i) (cpuOf st)) refl
@@ -136,27 +131,26 @@ module _ (store : List ℕ) (w : World) (g : Sound store w) (i : ℕ) (u : sessi
     clear-own : (j : ℕ) → all (clear j) (w .bench .sessions) ≡ true → getD (put i st w .mem) j 0 ≡ getD (w .mem) j 0
     clear-own j h =
         let q = all-at (clear j) (w .bench .sessions) i noSession h (used-in store w g i u) in
-        or-cases (ltb j (sessionAt w i .base)) (leb (sessionAt w i .base + sessionAt w i .len) j) (rw u at q)
-        (λ p. put-below j (ltb-true _ _ p))
-        (λ p. put-above j (leb-true _ _ p))
-
-    free-by : (j : ℕ) (b : Bool) → all (clear j) (w .bench .sessions) ≡ b → cond b (getD (put i st w .mem) j 0) 0 ≡ cond b (getD (w .mem) j 0) 0
-    free-by j true h = clear-own j h
-    free-by j false h = refl
+        or-cases (ltb j base) (leb end j) (rw u at q) (λ p. put-below j (ltb-true _ _ p)) (λ p. put-above j (leb-true _ _ p))
 
     free-kept : (j : ℕ) → publicOf (put i st w) .free j ≡ publicOf w .free j
-    free-kept j = rw (clear-kept j) (free-by j (all (clear j) (w .bench .sessions)) refl)
+    free-kept j = rw (clear-kept j) (either-way (all (clear j) (w .bench .sessions)) (λ h. rw (clear-own j h)) (λ h. rw h))
 
     shared-kept : take (w .bench .s) (put i st w .mem) ≡ take (w .bench .s) (w .mem)
     shared-kept =
-        take-splice (sessionAt w i .base) (sessionAt w i .base + sessionAt w i .len) (w .mem) o fits (st .words) l′ (w .bench .s)
+        take-splice base end (w .mem) o fits (st .words) l′ (w .bench .s)
         (opened store w g i u .above)
 
     -- what is shared is as it was
     pub put-public : publicOf (put i st w) ≡ publicOf w
-    put-public =
-        ap₃ (λ (x : ℕ) (y : List ℕ) (z : ℕ → ℕ). record { n = w .bench .n; s = w .bench .s; slots = w .bench .slots; size = x; shared = y; free = z })
-        put-long shared-kept (fun-ext free-kept)
+    put-public = λ j. record {
+      n = w .bench .n;
+      s = w .bench .s;
+      slots = w .bench .slots;
+      size = put-long j;
+      shared = shared-kept j;
+      free = fun-ext free-kept j;
+    }
 
     -- other registers in their ranges keep the world sound
     pub put-good : cpuOk (codeAt store w i) (sessionAt w i .len) (cpuOf st) ≡ true → Sound store (put i st w)

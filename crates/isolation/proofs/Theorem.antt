@@ -2,23 +2,23 @@
 -- Above: nothing. Below: Acts, interleave, and the laws that turns add up.
 use mathlib.Core.Path.{_≡_, refl, sym, ap, _∙_}
 use mathlib.Core.List.{List, [], _∷_, map}
-use mathlib.Core.Bool.{Bool, true, false, cond}
-use Prim.Native.Nat.{ℕ, zero, suc, _+_, _≤_, _<_}
+use mathlib.Core.Bool.{true, false}
+use Prim.Native.Nat.{ℕ}
 use native.Mathlib.Nat.{zero-add}
 use lib.Dec.{leb}
-use Rattle.interleave.specs.Interleave.{By, mine, oneByOne, Below, acts, answers, alone, aloneSays, Interleaved, Alike, TwoRuns}
+use Rattle.interleave.specs.Interleave.{By, mine, oneByOne, acts, answers, alone, aloneSays, Alike}
 use Rattle.interleave.proofs.Interleave.{interleaved, two-runs}
-use Rattle.sound.specs.Below.{SessionState, Cpu, stateOf, cpuOf, runOf, countOf}
-use Rattle.sound.specs.Bench.{World, sessionAt, sharedOf, wordsOf, codeAt, stateAt, at-cpu}
+use Rattle.sound.specs.Below.{SessionState, stateOf, cpuOf, runOf, countOf}
+use Rattle.sound.specs.Bench.{World, sessionAt, sharedOf, codeAt, stateAt, at-cpu}
 use Rattle.sound.specs.Sound.{Sound}
-use Rattle.sound.proofs.Below.{state-again, run-none, run-add, count-none, count-add}
+use Rattle.sound.proofs.Lists.{either-way}
+use Rattle.sound.proofs.Below.{run-none, run-add, count-none, count-add}
 use Rattle.entry.specs.declared.Answer.{Answer}
 use Rattle.entry.specs.declared.Answer.the-variants.{Done, Refused}
-use Rattle.entry.specs.Answer.{valueOf}
-use Rattle.entry.specs.Entries.{ranOf, doneOf, turnOf}
+use Rattle.entry.specs.Entries.{ranOf, turnOf}
 use Rattle.isolation.specs.Isolation.{Turn, after, answersOf, stepsOf, reported, reportsOf, OnItsOwn, Agree, Isolation}
 use Rattle.isolation.proofs.Parts.{Public, Private, publicOf, privateOf, ownState, at-state}
-use Rattle.isolation.proofs.Acts.{codeIn, nextOf, saysOf, next-runs, next-16, next-12, says-runs, says-16, says-12, own-state-is, ran-is, turns}
+use Rattle.isolation.proofs.Acts.{codeIn, next-runs, next-16, next-12, says-runs, says-16, says-12, own-state-is, ran-is, turns}
 
 -- the turns of specs/Isolation are the requests of interleave
 after-acts : (store : List ℕ) (ts : List Turn) (w : World) → after store ts w ≡ acts (turns store) ts w
@@ -42,52 +42,36 @@ alone-refused store c [] p u = refl
 alone-refused store c (k ∷ ks) p u =
     rw (next-12 store c k p u, says-12 store c k p u) (ap (λ (l : List Answer). Refused 12 0 ∷ l) (alone-refused store c ks p u))
 
-module _ (code shared : List ℕ) where
-  counts-by : (k : ℕ) (ks : List ℕ) (st : SessionState) (b : Bool) → leb k 65535 ≡ b → ((s : SessionState) → reported (reportsOf code shared ks s) ≡ countOf (stepsOf ks) code shared s) → reported (cond b (Done (countOf k code shared st) ∷ reportsOf code shared ks (runOf k code shared st)) (Refused 16 0 ∷ reportsOf code shared ks st)) ≡ countOf (cond b k 0 + stepsOf ks) code shared st
-  counts-by k ks st true h r =
-      ap (λ (n : ℕ). countOf k code shared st + n) (r (runOf k code shared st)) ∙ sym (count-add k (stepsOf ks) code shared st)
-  counts-by k ks st false h r = rw (zero-add (stepsOf ks), zero-add) (r st)
-
-  -- what the machine reports is the count of all its steps
-  counts-are : (ks : List ℕ) (st : SessionState) → reported (reportsOf code shared ks st) ≡ countOf (stepsOf ks) code shared st
-  counts-are [] st = sym (count-none code shared st)
-  counts-are (k ∷ ks) st = counts-by k ks st (leb k 65535) refl (λ s. counts-are ks s)
+-- what the machine reports is the count of all its steps
+counts-are : (code shared ks : List ℕ) (st : SessionState) → reported (reportsOf code shared ks st) ≡ countOf (stepsOf ks) code shared st
+counts-are code shared [] st = sym (count-none code shared st)
+counts-are code shared (k ∷ ks) st =
+    either-way (leb k 65535)
+    (λ h. rw (h, counts-are code shared ks (runOf k code shared st)) (sym (count-add k (stepsOf ks) code shared st)))
+    (λ h. rw (h, zero-add (stepsOf ks), zero-add) (counts-are code shared ks st))
 
 module _ (store : List ℕ) (c : Public) where
-  machine : ℕ → Private → SessionState
+  abbrev machine : ℕ → Private → SessionState
   machine k p = runOf k (codeIn store c p) (c .shared) (ownState p)
 
-  runs-by : (k : ℕ) (ks : List ℕ) (p : Private) → p .rec .used ≡ true → (b : Bool) → leb k 65535 ≡ b → ((q : Private) → q .rec .used ≡ true → alone (turns store) c ks q ≡ at-state q (machine (stepsOf ks) q)) → alone (turns store) c ks (nextOf store c k p) ≡ at-state p (machine (cond b k 0 + stepsOf ks) p)
-  unfolding machine
-  runs-by k ks p u true h r =
-      rw (next-runs store c k p u h)
-      (r (at-state p (machine k p)) u
-      ∙ ap (λ (st : SessionState). at-state p (runOf (stepsOf ks) (codeIn store c p) (c .shared) st)) (state-again (machine k p))
-      ∙ ap (at-state p) (sym (run-add k (stepsOf ks) (codeIn store c p) (c .shared) (ownState p))))
-  runs-by k ks p u false h r = rw (next-16 store c k p u h, zero-add (stepsOf ks)) (r p u)
-
   alone-runs : (ks : List ℕ) (p : Private) → p .rec .used ≡ true → alone (turns store) c ks p ≡ at-state p (machine (stepsOf ks) p)
-  unfolding machine
   alone-runs [] p u = sym (ap (at-state p) (run-none (codeIn store c p) (c .shared) (ownState p)))
-  alone-runs (k ∷ ks) p u = runs-by k ks p u (leb k 65535) refl (λ q v. alone-runs ks q v)
+  alone-runs (k ∷ ks) p u =
+      either-way (leb k 65535)
+      (λ h. rw (next-runs store c k p u h, h)
+      (alone-runs ks (at-state p (machine k p)) u ∙ ap (at-state p) (sym (run-add k (stepsOf ks) (codeIn store c p) (c .shared) (ownState p)))))
+      (λ h. rw (next-16 store c k p u h, h, zero-add (stepsOf ks)) (alone-runs ks p u))
 
-  says-by : (k : ℕ) (ks : List ℕ) (p : Private) → p .rec .used ≡ true → (b : Bool) → leb k 65535 ≡ b → ((q : Private) → q .rec .used ≡ true → aloneSays (turns store) c ks q ≡ reportsOf (codeIn store c q) (c .shared) ks (ownState q)) → saysOf store c k p ∷ aloneSays (turns store) c ks (nextOf store c k p) ≡ cond b (Done (countOf k (codeIn store c p) (c .shared) (ownState p)) ∷ reportsOf (codeIn store c p) (c .shared) ks (runOf k (codeIn store c p) (c .shared) (ownState p))) (Refused 16 0 ∷ reportsOf (codeIn store c p) (c .shared) ks (ownState p))
-  unfolding machine
-  says-by k ks p u true h r =
-      rw (next-runs store c k p u h, says-runs store c k p u h)
-      (ap (λ (l : List Answer). Done (countOf k (codeIn store c p) (c .shared) (ownState p)) ∷ l)
-      (r (at-state p (machine k p)) u
-      ∙ ap (λ (st : SessionState). reportsOf (codeIn store c p) (c .shared) ks st) (state-again (machine k p))))
-  says-by k ks p u false h r =
-      rw (next-16 store c k p u h, says-16 store c k p u h) (ap (λ (l : List Answer). Refused 16 0 ∷ l) (r p u))
-
-  alone-says : (ks : List ℕ) (p : Private) → p .rec .used ≡ true → aloneSays (turns store) c ks p ≡ reportsOf (codeIn store c p) (c .shared) ks (ownState p)
+  alone-says : (ks : List ℕ) (p : Private) → p .rec .used ≡ true
+      → aloneSays (turns store) c ks p ≡ reportsOf (codeIn store c p) (c .shared) ks (ownState p)
   alone-says [] p u = refl
-  alone-says (k ∷ ks) p u = says-by k ks p u (leb k 65535) refl (λ q v. alone-says ks q v)
+  alone-says (k ∷ ks) p u =
+      either-way (leb k 65535)
+      (λ h. rw (next-runs store c k p u h, says-runs store c k p u h, h, alone-says ks (at-state p (machine k p)) u))
+      (λ h. rw (next-16 store c k p u h, says-16 store c k p u h, h, alone-says ks p u))
 
 module _ (store : List ℕ) (ts : List Turn) (w : World) (g : Sound store w) (i : ℕ) (u : sessionAt w i .used ≡ true) where
   own-end : privateOf i (after store ts w) ≡ at-state (privateOf i w) (ranOf store i (stepsOf (mine i ts)) w)
-  unfolding machine
   own-end =
       rw (after-acts store ts w)
       (interleaved (turns store) .own-state ts w g i
@@ -130,54 +114,28 @@ module _ (store store′ : List ℕ) (c : Public) (p : Private) (d : Public) (r 
   same-count : countOf k (codeIn store c p) (c .shared) (ownState p) ≡ countOf k (codeIn store′ d r) (d .shared) (ownState r)
   same-count j = countOf k (s .code j) (s .shared j) (stateOf (s .words j) (s .cpu j))
 
-  still-by : (b : Bool) → leb k 65535 ≡ b → Seen store store′ c (nextOf store c k p) d (nextOf store′ d k r)
-  still-by true h =
-      rw (next-runs store c k p (s .open-here) h, next-runs store′ d k r (s .open-there) h)
-      (record {
-        open-here = s .open-here;
-        open-there = s .open-there;
-        cpu = ap cpuOf same-run;
-        words = ap (λ (st : SessionState). st .words) same-run;
-        code = s .code;
-        shared = s .shared;
-      })
-  still-by false h = rw (next-16 store c k p (s .open-here) h, next-16 store′ d k r (s .open-there) h) s
-
-  speak-by : (b : Bool) → leb k 65535 ≡ b → saysOf store c k p ≡ saysOf store′ d k r
-  speak-by true h =
-      says-runs store c k p (s .open-here) h ∙ ap Done same-count ∙ sym (says-runs store′ d k r (s .open-there) h)
-  speak-by false h = says-16 store c k p (s .open-here) h ∙ sym (says-16 store′ d k r (s .open-there) h)
-
 alike : (store store′ : List ℕ) → Alike (turns store) (turns store′)
 alike store store′ =
     record {
       Same = Seen store store′;
-      still = λ c p d r k s. still-by store store′ c p d r k s (leb k 65535) refl;
-      speak = λ c p d r k s. speak-by store store′ c p d r k s (leb k 65535) refl;
+      still = λ c p d r k s.
+          let run = same-run store store′ c p d r k s in
+          either-way (leb k 65535)
+          (λ h. rw (next-runs store c k p (s .open-here) h, next-runs store′ d k r (s .open-there) h)
+          (let cpu = ap cpuOf run in let words = ap (λ (st : SessionState). st .words) run in search))
+          (λ h. rw (next-16 store c k p (s .open-here) h, next-16 store′ d k r (s .open-there) h) s);
+      speak = λ c p d r k s.
+          either-way (leb k 65535)
+          (λ h. rw (says-runs store c k p (s .open-here) h, says-runs store′ d k r (s .open-there) h) (ap Done (same-count store store′ c p d r k s)))
+          (λ h. rw (says-16 store c k p (s .open-here) h, says-16 store′ d k r (s .open-there) h));
     }
 
 module _ (store store′ : List ℕ) (w w′ : World) (i j : ℕ) where
   seen : Agree store w i store′ w′ j → Seen store store′ (publicOf w) (privateOf i w) (publicOf w′) (privateOf j w′)
-  seen a =
-      record {
-        open-here = a .open-here;
-        open-there = a .open-there;
-        cpu = a .cpu;
-        words = rw (a .open-here, a .open-there) (a .words);
-        code = a .code;
-        shared = a .shared;
-      }
+  seen a = let words : privateOf i w .words ≡ privateOf j w′ .words = rw (a .open-here, a .open-there) (a .words) in search
 
   agree : Seen store store′ (publicOf w) (privateOf i w) (publicOf w′) (privateOf j w′) → Agree store w i store′ w′ j
-  agree s =
-      record {
-        open-here = s .open-here;
-        open-there = s .open-there;
-        cpu = s .cpu;
-        words = rw (s .open-here, s .open-there) at (s .words);
-        code = s .code;
-        shared = s .shared;
-      }
+  agree s = let words : wordsOf w (sessionAt w i) ≡ wordsOf w′ (sessionAt w′ j) = rw (s .open-here, s .open-there) at (s .words) in search
 
 -- ---- all of it
 

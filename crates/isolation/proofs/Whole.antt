@@ -1,8 +1,8 @@
 -- Two sound worlds are the same where what is shared and what is each session's own are.
 -- Above: Acts. Below: Parts.
-use mathlib.Core.Path.{_≡_, refl, sym, ap, _∙_}
+use mathlib.Core.Path.{_≡_, sym, ap, _∙_}
 use mathlib.Core.List.{List}
-use mathlib.Core.Bool.{Bool, true, false, _||_, not}
+use mathlib.Core.Bool.{true, false, _||_, not}
 use Prim.Native.Nat.{ℕ, _+_, _-_, _≤_, _<_}
 use native.Mathlib.Omega.{arith}
 use lib.Dec.{leb, ltb}
@@ -14,9 +14,9 @@ use Rattle.basis.proofs.Part.{getD-part}
 use Rattle.sound.specs.Bench.{noSession, World, sessionAt, wordsOf}
 use Rattle.sound.specs.Sound.{all, Sound}
 use Rattle.sound.specs.declared.Session.{Session}
-use Rattle.sound.proofs.Lists.{all-fails}
+use Rattle.sound.proofs.Lists.{either-way, all-fails}
 use Rattle.sound.proofs.Facts.{opened}
-use Rattle.isolation.proofs.Parts.{clear, Public, Private, publicOf, privateOf, ap₃}
+use Rattle.isolation.proofs.Parts.{clear, Public, Private, publicOf, privateOf}
 
 -- word j is in this session's region
 record Within (j : ℕ) (se : Session) : Type 0 where
@@ -32,13 +32,11 @@ within j se h =
 
 -- the worlds are the same where what is shared and what is each session's own are
 module _ (store : List ℕ) (v w : World) (gv : Sound store v) (gw : Sound store w) (p : publicOf v ≡ publicOf w) (q : (i : ℕ) → privateOf i v ≡ privateOf i w) where
-  same-sessions : v .bench .sessions ≡ w .bench .sessions
-  same-sessions =
-      ext-getD noSession (v .bench .sessions) (w .bench .sessions) (gv .sixteen ∙ sym (gw .sixteen))
-      (λ i h. ap (λ (x : Private). x .rec) (q i))
-
   same-rec-at : (i : ℕ) → sessionAt v i ≡ sessionAt w i
   same-rec-at i = ap (λ (x : Private). x .rec) (q i)
+
+  same-sessions : v .bench .sessions ≡ w .bench .sessions
+  same-sessions = ext-getD noSession (v .bench .sessions) (w .bench .sessions) (gv .sixteen ∙ sym (gw .sixteen)) (λ i h. same-rec-at i)
 
   same-words : (i : ℕ) → sessionAt w i .used ≡ true → wordsOf v (sessionAt w i) ≡ wordsOf w (sessionAt w i)
   same-words i u = rw (same-rec-at i, u) at (ap (λ (x : Private). x .words) (q i))
@@ -47,28 +45,27 @@ module _ (store : List ℕ) (v w : World) (gv : Sound store v) (gw : Sound store
   word-in j i h =
       let b = sessionAt w i .base in
       let e = sessionAt w i .base + sessionAt w i .len in
-      let fw : sessionAt w i .base + sessionAt w i .len ≤ length (w .mem) = opened store w gw i (h .used) .inside in
-      let fv : sessionAt w i .base + sessionAt w i .len ≤ length (v .mem) = rw (ap (λ (x : Public). x .size) p) fw in
-      let lt : j - sessionAt w i .base < sessionAt w i .base + sessionAt w i .len - sessionAt w i .base = omega (arith, h .low, h .high) in
-      let eq : j ≡ sessionAt w i .base + (j - sessionAt w i .base) = omega (arith, h .low) in
-      let pv = getD-part b e (v .mem) (omega arith) fv (j - sessionAt w i .base) lt in
-      let pw = getD-part b e (w .mem) (omega arith) fw (j - sessionAt w i .base) lt in
-      ap (λ (x : ℕ). getD (v .mem) x 0) eq
-      ∙ sym pv
-      ∙ ap (λ (l : List ℕ). getD l (j - sessionAt w i .base) 0) (same-words i (h .used))
-      ∙ pw
-      ∙ sym (ap (λ (x : ℕ). getD (w .mem) x 0) eq)
+      let k = j - sessionAt w i .base in
+      let fw : e ≤ length (w .mem) = opened store w gw i (h .used) .inside in
+      let fv : e ≤ length (v .mem) = rw (ap (λ (x : Public). x .size) p) fw in
+      let lt : k < e - b = omega (arith, h .low, h .high) in
+      let eq : b + k ≡ j = omega (arith, h .low) in
+      rw eq at
+      (sym (getD-part b e (v .mem) (omega arith) fv k lt)
+      ∙ ap (λ (l : List ℕ). getD l k 0) (same-words i (h .used))
+      ∙ getD-part b e (w .mem) (omega arith) fw k lt)
 
-  word-by : (j : ℕ) (b : Bool) → all (clear j) (w .bench .sessions) ≡ b → getD (v .mem) j 0 ≡ getD (w .mem) j 0
-  word-by j true h = rw (same-sessions, h) at (ap (λ (x : Public). x .free j) p)
-  word-by j false h =
-      let r = all-fails (clear j) (w .bench .sessions) noSession h in
-      word-in j (r .0) (within j (sessionAt w (r .0)) (r .2))
+  same-word : (j : ℕ) → getD (v .mem) j 0 ≡ getD (w .mem) j 0
+  same-word j =
+      either-way (all (clear j) (w .bench .sessions))
+      (λ h. rw (same-sessions, h) at (ap (λ (x : Public). x .free j) p))
+      (λ h. let r = all-fails (clear j) (w .bench .sessions) noSession h in word-in j (r .0) (within j (sessionAt w (r .0)) (r .2)))
 
   same-mem : v .mem ≡ w .mem
-  same-mem =
-      ext-getD 0 (v .mem) (w .mem) (ap (λ (x : Public). x .size) p) (λ j h. word-by j (all (clear j) (w .bench .sessions)) refl)
+  same-mem = ext-getD 0 (v .mem) (w .mem) (ap (λ (x : Public). x .size) p) (λ j h. same-word j)
 
   pub same-world : v ≡ w
-  same-world =
-      ap₃ (λ (x : Public) (l : List Session) (m : List ℕ). record { bench = record { n = x .n; s = x .s; slots = x .slots; sessions = l }; mem = m }) p same-sessions same-mem
+  same-world = λ j. record {
+    bench = record { n = p j .n; s = p j .s; slots = p j .slots; sessions = same-sessions j };
+    mem = same-mem j;
+  }

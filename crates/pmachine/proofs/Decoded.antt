@@ -2,7 +2,6 @@
 -- Above: Judged, and the decoder's proofs; below: Decoding, Rows, and the operands' law of `operand`.
 use Prim.Native.Nat.{ℕ, _+_, _<_, _≤_}
 use native.Mathlib.Omega.{arith}
-use mathlib.Core.Path.{_≡_, subst}
 use mathlib.Core.List.{List, [], _∷_}
 use lib.ListN.{length}
 use Rattle.basis.specs.Bools.{inside}
@@ -74,10 +73,3 @@ decode-proper s at =
     cond-holds (ProperBy s at) (inside 22 (length s) at)
     (λ e. let h = inside-true 22 (length s) at e in row-proper s at (h .0) (h .1) (opcode (byteAt s at)) (opcode-roomy (byteAt s at)))
     (λ e. (omega arith, omega arith))
-
--- the same, of an answer in hand
-pub decode-next : (s : List ℕ) (at : ℕ) {i : Instruction} → decode s at ≡ instruction i → Proper s at i
-decode-next s at e = subst (ProperBy s at) e (decode-proper s at)
-
-pub decode-faulty : (s : List ℕ) (at : ℕ) {n : ℕ} → decode s at ≡ faulty n → (1 ≤ n) × (n ≤ 2)
-decode-faulty s at e = subst (ProperBy s at) e (decode-proper s at)

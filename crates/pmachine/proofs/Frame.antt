@@ -7,7 +7,7 @@ use mathlib.Core.List.{List, [], _∷_}
 use mathlib.Core.Bool.{true, false, false≢true}
 use lib.ListN.{length, getD, set, length-set}
 use lib.Seq.{getD-set-same, getD-set-other}
-use Rattle.pmachine.specs.State.{Registers, ready, finished, faulted, State}
+use Rattle.pmachine.specs.State.{Registers, ready, faulted, State}
 use Rattle.pmachine.specs.Step.{Outcome, fault, finish, goes, judge}
 use Rattle.pmachine.specs.Run.{isReady, written, settled, step}
 use Rattle.pmachine.specs.Kept.{StepKept}
@@ -19,11 +19,6 @@ pub written-below : (ws w : List ℕ) (at i : ℕ) → i < at → getD (written 
 unfolding written
 written-below [] w at i h = refl
 written-below (v ∷ vs) w at i h = written-below vs (set w at v) (at + 1) i (omega arith) ∙ getD-set-other w at i v 0 (omega arith)
-
-pub written-above : (ws w : List ℕ) (at i : ℕ) → at + length ws ≤ i → getD (written w at ws) i 0 ≡ getD w i 0
-unfolding written
-written-above [] w at i h = refl
-written-above (v ∷ vs) w at i h = written-above vs (set w at v) (at + 1) i (omega arith) ∙ getD-set-other w at i v 0 (omega arith)
 
 pub written-at : (ws w : List ℕ) (at k : ℕ) → at + length ws ≤ length w → k < length ws → getD (written w at ws) (at + k) 0 ≡ getD ws k 0
 unfolding written
@@ -49,21 +44,10 @@ module _ (s shared : List ℕ) (t : State) (e : isReady (t .kind) ≡ true) wher
   unfolding settled
   step-fault h = step-ready s shared t e ∙ ap (settled (t .words) (t .registers)) h
 
-  pub step-finish : judge s shared (t .words) (t .registers) ≡ finish → step s shared t ≡ record { words = t .words; registers = t .registers; kind = finished }
-  unfolding settled
-  step-finish h = step-ready s shared t e ∙ ap (settled (t .words) (t .registers)) h
-
   pub step-goes : {q : Registers} {at : ℕ} {ws : List ℕ} → judge s shared (t .words) (t .registers) ≡ goes q at ws
       → step s shared t ≡ record { words = written (t .words) at ws; registers = q; kind = ready }
   unfolding settled
   step-goes h = step-ready s shared t e ∙ ap (settled (t .words) (t .registers)) h
-
-  module _ (q : Registers) (at : ℕ) (ws : List ℕ) (h : judge s shared (t .words) (t .registers) ≡ goes q at ws) (i : ℕ) where
-    pub step-frame-below : i < at → getD (step s shared t .words) i 0 ≡ getD (t .words) i 0
-    step-frame-below l = rw (step-goes h) (written-below ws (t .words) at i l)
-
-    pub step-frame-above : at + length ws ≤ i → getD (step s shared t .words) i 0 ≡ getD (t .words) i 0
-    step-frame-above l = rw (step-goes h) (written-above ws (t .words) at i l)
 
 -- a step after which the session is not ready leaves words and registers
 pub step-kept : StepKept

@@ -12,9 +12,11 @@ use Rattle.basis.specs.Bools.{inside}
 use Rattle.basis.proofs.Bools.{inside-true, both-true, cond-holds}
 use Rattle.segment.specs.Head.{count, start}
 use Rattle.pmachine.specs.State.{Registers}
-use Rattle.pmachine.specs.Meaning.{Meaning, constant, pool-offset, load, address, store, index, indirect, unary, binary, division, duplicate, swap, nothing, subrange, jump, jump-if, call, return}
+use Rattle.pmachine.specs.Meaning.{Meaning, constant, pool-offset, load, address, store, index, indirect, unary}
+use Rattle.pmachine.specs.Meaning.{binary, division, duplicate, swap, nothing, subrange, jump, jump-if, call, return}
 use Rattle.pmachine.specs.Decoding.{Instruction, Decoded, instruction, faulty, decode}
-use Rattle.pmachine.specs.Step.{Outcome, fault, finish, goes, floor, pointer, private, target, newRecord, markAt, resumes, moved, Ground, _when_, groundFor, firstFault, order, below, asks, effect, outcome, judgedBy, judge}
+use Rattle.pmachine.specs.Step.{Outcome, fault, finish, goes, floor, pointer, private, target, newRecord, markAt, resumes}
+use Rattle.pmachine.specs.Step.{moved, Ground, _when_, groundFor, firstFault, order, below, asks, effect, outcome, judgedBy, judge}
 use Rattle.pmachine.specs.Sound.{Ranged, Loaded}
 use Rattle.pmachine.proofs.Rows.{pushes}
 use Rattle.pmachine.proofs.Decoded.{Proper, ProperBy, decode-proper}
@@ -97,18 +99,7 @@ resumed s w mark sp h =
 module _ (s shared w : List ℕ) (r : Registers) (ld : Loaded s) (rg : Ranged s (length w) r) where
   -- the same record and routine, another stack pointer and counter
   stay : (sp n : ℕ) → ltb sp (floor s) ≡ false → sp ≤ length w → 22 ≤ n → n ≤ length s → Ranged s (length w) (moved r sp n)
-  stay sp n e h a b =
-      record {
-        low = rg .low;
-        sp-low = ltb-false sp (floor s) e;
-        sp-high = h;
-        m-low = rg .m-low;
-        m-high = rg .m-high;
-        counter-low = a;
-        counter-high = b;
-        routine-low = rg .routine-low;
-        routine-high = rg .routine-high;
-      }
+  stay sp n e h a b = let low = ltb-false sp (floor s) e in search
 
   -- of SP after the words taken and given, g of them given
   module _ (sp g : ℕ) (k : sp + g ≤ length w) where
@@ -166,22 +157,7 @@ module _ (s shared w : List ℕ) (r : Registers) (ld : Loaded s) (rg : Ranged s 
     returned v true o = tt
     returned v false o =
         let z = resumed s w (markAt w (r .m)) (r .m + 5 + v) (not-false _ o) in
-        record {
-          registers =
-              record {
-                low = rg .low;
-                sp-low = z .sp-low;
-                sp-high = z .sp-high;
-                m-low = z .m-low;
-                m-high = z .m-high;
-                counter-low = z .counter-low;
-                counter-high = z .counter-high;
-                routine-low = z .routine-low;
-                routine-high = z .routine-high;
-              };
-          fits = omega arith;
-          above = λ (h : 0 < 0). absurd (omega arith);
-        }
+        record { registers = search; fits = omega arith; above = λ (h : 0 < 0). absurd (omega arith) }
 
     effect-good : (x : Bool) (n : ℕ) (m : Meaning) → pushes m ≤ g → 22 ≤ n → n ≤ length s
         → Clear (3 when x ∷ 4 when below (floor s) (effect s shared w r sp n m) ∷ asks s shared w r n m)
@@ -211,7 +187,8 @@ module _ (s shared w : List ℕ) (r : Registers) (ld : Loaded s) (rg : Ranged s 
   outcome-good i d =
       first-holds (Good s (length w)) _ _ (λ n a b. (a, b)) (λ c.
       let h = ltb-false (length w) (r .sp + i .taken) (c .three) in
-      effect-good (r .sp + i .taken - i .given) (i .given) (omega (arith, d .few-given, rg .m-high)) _ (i .next) (i .does) (d .room) (omega (arith, d .first, d .after)) (d .end) c)
+      effect-good (r .sp + i .taken - i .given) (i .given) (omega (arith, d .few-given, rg .m-high)) _ (i .next) (i .does) (d .room)
+      (omega (arith, d .first, d .after)) (d .end) c)
 
   by-good : (x : Decoded) → ProperBy s (r .counter) x → Good s (length w) (judgedBy s shared w r x)
   unfolding judgedBy
@@ -225,6 +202,3 @@ module _ (s shared w : List ℕ) (r : Registers) (ld : Loaded s) (rg : Ranged s 
   -- the same, of an outcome in hand
   pub judge-goes : {q : Registers} {at : ℕ} {ws : List ℕ} → judge s shared w r ≡ goes q at ws → Goes s (length w) q at ws
   judge-goes e = subst (Good s (length w)) e judge-good
-
-  pub judge-fault : {n : ℕ} → judge s shared w r ≡ fault n → (1 ≤ n) × (n ≤ 10)
-  judge-fault e = subst (Good s (length w)) e judge-good

@@ -1,17 +1,17 @@
--- A step and a run keep what soundness says of a session on its segment, and an opened session has it.
+-- A step and a run keep what soundness says of a session on its segment, and the starting registers have it.
 -- Above: session and bench; below: Judged, Ranges, Runs.
 use Prim.Native.Nat.{ℕ, zero, suc, _≤_}
 use native.Mathlib.Omega.{arith}
-use mathlib.Core.Path.{_≡_, sym, _∙_, subst}
+use mathlib.Core.Path.{_≡_, _∙_}
 use mathlib.Core.List.{List}
 use mathlib.Core.Bool.{true}
-use lib.ListN.{length, length-replicate}
+use lib.ListN.{length}
 use Rattle.basis.proofs.Bools.{cond-holds}
 use Rattle.segment.specs.Head.{start}
-use Rattle.pmachine.specs.State.{Registers, ready, State}
+use Rattle.pmachine.specs.State.{Registers, State}
 use Rattle.pmachine.specs.Step.{Outcome, fault, finish, goes, floor, judge}
 use Rattle.pmachine.specs.Run.{isReady, settled, step, run}
-use Rattle.pmachine.specs.Sound.{inRange, Ranged, starting, opened, Loaded}
+use Rattle.pmachine.specs.Sound.{inRange, Ranged, starting, Loaded}
 use Rattle.pmachine.specs.Kept.{StepKeeps, RunKeeps}
 use Rattle.pmachine.proofs.Ranges.{KindRanged, ranged, kind-ranged, in-range}
 use Rattle.pmachine.proofs.Judged.{Good, judge-good}
@@ -35,8 +35,7 @@ module _ (s shared : List ℕ) (l : ℕ) (ld : Loaded s) where
   step-whole t h =
       let w = t .words in
       let r = t .registers in
-      let rg = subst (λ (n : ℕ). Ranged s n r) (sym (h .size)) (h .registers) in
-      let g = subst (λ (n : ℕ). Good s n (judge s shared w r)) (h .size) (judge-good s shared w r ld rg) in
+      let g = rw (h .size) at (judge-good s shared w r ld (rw (h .size) (h .registers))) in
       cond-holds (Whole s l) (isReady (t .kind)) (λ _. settled-whole w r (judge s shared w r) (h .size) (h .registers) g) (λ _. h)
 
   pub run-whole : (k : ℕ) (t : State) → Whole s l t → Whole s l (run s shared k t)
@@ -59,27 +58,18 @@ run-keeps s shared l ld k t e h = whole-inRange s l (run s shared k t) (run-whol
 
 -- ---- the starting state
 
-module _ (s : List ℕ) (l : ℕ) where
-  pub starting-ranged : Loaded s → floor s ≤ l → Ranged s l (starting s l)
-  unfolding starting start
-  starting-ranged ld h =
-      let f = ld .routines 1 (omega arith) (ld .some) in
-      record {
-        low = h;
-        sp-low = h;
-        sp-high = omega arith;
-        m-low = omega arith;
-        m-high = omega arith;
-        counter-low = omega (arith, f .entry-low);
-        counter-high = omega (arith, f .entry-high, ld .even);
-        routine-low = omega arith;
-        routine-high = ld .some;
-      }
-
-  pub opened-length : length (opened s l .words) ≡ l
-  unfolding opened
-  opened-length = length-replicate l 0
-
-  pub opened-inRange : Loaded s → floor s ≤ l → inRange s l (opened s l .registers) (opened s l .kind) ≡ true
-  unfolding opened
-  opened-inRange ld h = in-range s l (starting s l) ready (starting-ranged ld h) tt
+pub starting-ranged : (s : List ℕ) (l : ℕ) → Loaded s → floor s ≤ l → Ranged s l (starting s l)
+unfolding starting start
+starting-ranged s l ld h =
+    let f = ld .routines 1 (omega arith) (ld .some) in
+    record {
+      low = h;
+      sp-low = h;
+      sp-high = omega arith;
+      m-low = omega arith;
+      m-high = omega arith;
+      counter-low = omega (arith, f .entry-low);
+      counter-high = omega (arith, f .entry-high, ld .even);
+      routine-low = omega arith;
+      routine-high = ld .some;
+    }

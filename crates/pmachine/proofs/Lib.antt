@@ -1,6 +1,5 @@
 -- Laws of the documented p-machine, for the layers above to cite in place of its text: ranges that a step keeps, runs that add up, what stays.
 -- Above: code, machine, session and bench; below: specs/, and the laws of segment, operand and word.
-pub mod Small
 pub mod Ranges
 pub mod Rows
 pub mod Decoded

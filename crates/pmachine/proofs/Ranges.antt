@@ -6,6 +6,7 @@ use mathlib.Core.List.{List}
 use mathlib.Core.Bool.{true}
 use lib.ListN.{length}
 use borrow.Author.Tests.{leb-true, le-leb}
+use Rattle.basis.specs.Bools.{every}
 use Rattle.basis.proofs.Bools.{every-holds, holds-every}
 use Rattle.pmachine.specs.State.{Registers, Kind, ready, finished, faulted}
 use Rattle.pmachine.specs.Sound.{kindInRange, inRange, Ranged}
@@ -54,21 +55,17 @@ module _ (s : List ℕ) (l : ℕ) (r : Registers) (k : Kind) where
   kind-ranged h = let a = every-holds _ h in kind-numbers s k (a .1 .1 .1 .1 .1 .1 .1 .1 .1 .0)
 
   pub in-range : Ranged s l r → KindRanged s k → inRange s l r k ≡ true
-  unfolding inRange
+  unfolding inRange every
   in-range f g =
-      holds-every _ (
+      rw (
         le-leb _ _ (f .low),
-        (
-          le-leb _ _ (f .sp-low),
-          (
-            le-leb _ _ (f .sp-high),
-            (
-              le-leb _ _ (f .m-low),
-              (
-                le-leb _ _ (f .m-high),
-                (le-leb _ _ (f .counter-low), (le-leb _ _ (f .counter-high), (le-leb _ _ (f .routine-low), (le-leb _ _ (f .routine-high), (kind-test s k g, tt))))),
-              ),
-            ),
-          ),
-        ),
+        le-leb _ _ (f .sp-low),
+        le-leb _ _ (f .sp-high),
+        le-leb _ _ (f .m-low),
+        le-leb _ _ (f .m-high),
+        le-leb _ _ (f .counter-low),
+        le-leb _ _ (f .counter-high),
+        le-leb _ _ (f .routine-low),
+        le-leb _ _ (f .routine-high),
+        kind-test s k g,
       )

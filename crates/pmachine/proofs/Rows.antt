@@ -1,19 +1,27 @@
 -- What the opcode table says of every first byte alike: few words taken and given, and room for those that the meaning writes on the stack.
 -- One test that antt computes over the bytes shows it, and past them nothing is carried. Above: Decoded; below: Opcode.
 use Prim.Native.Nat.{ℕ, zero, suc, _<_, _≤_}
-use native.Mathlib.Nat.{le-of-suc-le-suc, not-suc-le-zero, eq-or-lt-of-le}
 use native.Mathlib.Omega.{arith}
 use native.Mathlib.Decide.{decLt}
-use mathlib.Core.Path.{_≡_, refl, sym, subst}
-use mathlib.Core.Logic.{⊎-elim}
+use mathlib.Core.Path.{_≡_, refl}
 use mathlib.Core.List.{List, [], _∷_}
 use mathlib.Core.Bool.{Bool, true, false, _&&_}
 use lib.Dec.{T, leb, leb→le}
 use borrow.Author.Tests.{leb-true, lt-leb}
 use Rattle.basis.specs.Bools.{every}
 use Rattle.basis.proofs.Bools.{every-holds, and-fst, and-snd}
-use Rattle.pmachine.specs.Meaning.{Meaning, constant, pool-offset, load, address, store, index, indirect, unary, binary, division, duplicate, swap, nothing, subrange, jump, jump-if, call, return}
+use Rattle.pmachine.specs.Meaning.{Meaning, constant, pool-offset, load, address, store, index, indirect, unary}
+use Rattle.pmachine.specs.Meaning.{binary, division, duplicate, swap, nothing, subrange, jump, jump-if, call, return}
 use Rattle.pmachine.specs.Opcode.{Row, carried, uncarried, opcode, rowIn, appendixB, consecutive, LinesConsecutive}
+
+-- by what a test says, and by what is decided
+pub either-way : {P : Type 0} (b : Bool) → (b ≡ true → P) → (b ≡ false → P) → P
+either-way true f g = f refl
+either-way false f g = g refl
+
+pub decided : {A P : Type 0} → Dec A → (A → P) → ((A → ⊥) → P) → P
+decided (yes a) f g = f a
+decided (no n) f g = g n
 
 -- the words that a meaning writes on the stack
 unfoldable pub pushes : Meaning → ℕ
@@ -47,11 +55,11 @@ numbers f zero = true
 numbers f (suc n) = f n && numbers f n
 
 pub at-number : (f : ℕ → Bool) (n : ℕ) → numbers f n ≡ true → (k : ℕ) → k < n → f k ≡ true
-at-number f zero t k h = absurd (not-suc-le-zero h)
+at-number f zero t k h = absurd (omega arith)
 at-number f (suc n) t k h =
-    ⊎-elim (λ e. subst (λ (m : ℕ). f m ≡ true) (sym e) (and-fst (f n) (numbers f n) t))
+    decided (decLt k n)
     (λ l. at-number f n (and-snd (f n) (numbers f n) t) k l)
-    (eq-or-lt-of-le (le-of-suc-le-suc h))
+    (λ l. let e : k ≡ n = omega arith in rw e (and-fst (f n) (numbers f n) t))
 
 abbrev roomy : List ℕ → Row → Bool
 roomy vs (carried forms taken given does) = every (leb taken 3 ∷ leb given 2 ∷ leb (pushes (does vs)) given ∷ [])
@@ -80,9 +88,5 @@ high b h =
     let u : Unit {0} = tt in
     simp past
 
-roomy-by : (b : ℕ) → Dec (b < 242) → Roomy (opcode b)
-roomy-by b (yes h) = roomy-row (opcode b) (λ vs. bytes-roomy vs b h)
-roomy-by b (no h) = rw (high b (omega arith)) tt
-
 pub opcode-roomy : (b : ℕ) → Roomy (opcode b)
-opcode-roomy b = roomy-by b (decLt b 242)
+opcode-roomy b = decided (decLt b 242) (λ h. roomy-row (opcode b) (λ vs. bytes-roomy vs b h)) (λ h. rw (high b (omega arith)) tt)

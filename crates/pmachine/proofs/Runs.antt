@@ -1,13 +1,14 @@
 -- Runs and their counts: where they stop, how they add up, and that the number of words stays. Nothing is asked of segment or state.
 -- Above: Keeps, session and bench; below: Run.
-use Prim.Native.Nat.{ℕ, zero, suc, _+_, _<_, _≤_}
+use Prim.Native.Nat.{ℕ, zero, suc, _+_}
 use native.Mathlib.Nat.{zero-add, suc-add}
 use native.Mathlib.Omega.{arith}
 use mathlib.Core.Path.{_≡_, refl, sym, ap, _∙_}
 use mathlib.Core.List.{List, [], _∷_}
-use mathlib.Core.Bool.{Bool, true, false, false≢true}
+use mathlib.Core.Bool.{true, false, false≢true}
 use lib.ListN.{length, set, length-set}
 use Rattle.basis.proofs.Bools.{cond-holds}
+use Rattle.pmachine.proofs.Rows.{either-way}
 use Rattle.pmachine.specs.State.{Registers, State}
 use Rattle.pmachine.specs.Step.{Outcome, fault, finish, goes, judge}
 use Rattle.pmachine.specs.Run.{isReady, written, settled, step, run, stepsDone}
@@ -65,42 +66,14 @@ module _ (s shared : List ℕ) where
   unfolding stepsDone
   count-ready k t e = rw e
 
-  run-by : (k : ℕ) (t : State) (x : Bool) → isReady (t .kind) ≡ x → run s shared (suc k) t ≡ run s shared k (step s shared t)
-  unfolding run
-  run-by k t true e = rw e
-  run-by k t false e = rw (e, step-stopped t e) (sym (run-stopped k t e))
-
   -- a run is its first step and the rest, whether or not the session is ready
   pub run-suc : (k : ℕ) (t : State) → run s shared (suc k) t ≡ run s shared k (step s shared t)
-  run-suc k t = run-by k t (isReady (t .kind)) refl
+  unfolding run
+  run-suc k t = either-way (isReady (t .kind)) (λ e. rw e) (λ e. rw (e, step-stopped t e) (sym (run-stopped k t e)))
 
   pub run-length : (k : ℕ) (t : State) → length (run s shared k t .words) ≡ length (t .words)
-  run-length zero t = ap (λ (u : State). length (u .words)) (run-none t)
-  run-length (suc k) t = ap (λ (u : State). length (u .words)) (run-suc k t) ∙ (run-length k (step s shared t) ∙ step-length t)
-
-  -- ---- the first step of a turn and the rest, whether or not the session is ready
-
-  count-add-by : (a b : ℕ) (t : State) (x : Bool) → isReady (t .kind) ≡ x
-      → stepsDone s shared (a + b) (step s shared t) ≡ stepsDone s shared a (step s shared t) + stepsDone s shared b (run s shared a (step s shared t))
-      → stepsDone s shared (suc a + b) t ≡ stepsDone s shared (suc a) t + stepsDone s shared b (run s shared (suc a) t)
-  count-add-by a b t true e h = rw (suc-add a b, count-ready (a + b) t e, count-ready a t e, run-suc a t, h) (omega arith)
-  count-add-by a b t false e h =
-      rw (count-stopped (suc a + b) t e, count-stopped (suc a) t e, run-stopped (suc a) t e, count-stopped b t e)
-
-  count-most-by : (k : ℕ) (t : State) (x : Bool) → isReady (t .kind) ≡ x → stepsDone s shared k (step s shared t) ≤ k → stepsDone s shared (suc k) t ≤ suc k
-  count-most-by k t true e h = omega (arith, count-ready k t e)
-  count-most-by k t false e h = omega (arith, count-stopped (suc k) t e)
-
-  count-all-by : (k : ℕ) (t : State) (x : Bool) → isReady (t .kind) ≡ x → isReady (run s shared (suc k) t .kind) ≡ true
-      → (isReady (run s shared k (step s shared t) .kind) ≡ true → stepsDone s shared k (step s shared t) ≡ k) → stepsDone s shared (suc k) t ≡ suc k
-  count-all-by k t true e h f = count-ready k t e ∙ ap suc (f (rw (run-suc k t) at h))
-  count-all-by k t false e h f = absurd (false≢true (sym e ∙ (rw (run-stopped (suc k) t e) at h)))
-
-  count-run-by : (k : ℕ) (t : State) (x : Bool) → isReady (t .kind) ≡ x
-      → run s shared k (step s shared t) ≡ run s shared (stepsDone s shared k (step s shared t)) (step s shared t)
-      → run s shared (suc k) t ≡ run s shared (stepsDone s shared (suc k) t) t
-  count-run-by k t true e h = rw (count-ready k t e, run-suc k t, run-suc (stepsDone s shared k (step s shared t)) t) h
-  count-run-by k t false e h = rw (count-stopped (suc k) t e, run-none t) (run-stopped (suc k) t e)
+  run-length zero t = rw (run-none t)
+  run-length (suc k) t = rw (run-suc k t) (run-length k (step s shared t) ∙ step-length t)
 
 -- ---- two turns are one turn of both their steps, and their counts add up
 
@@ -110,28 +83,35 @@ run-add s shared (suc a) b t = rw (suc-add a b, run-suc s shared (a + b) t, run-
 
 pub count-add : CountAdd
 count-add s shared zero b t = rw (zero-add, count-none s shared t, run-none s shared t, zero-add)
-count-add s shared (suc a) b t = count-add-by s shared a b t (isReady (t .kind)) refl (count-add s shared a b (step s shared t))
+count-add s shared (suc a) b t =
+    either-way (isReady (t .kind))
+    (λ e. rw (suc-add a b, count-ready s shared (a + b) t e, count-ready s shared a t e, run-suc s shared a t, count-add s shared a b (step s shared t)) (omega arith))
+    (λ e. rw (count-stopped s shared (suc a + b) t e, count-stopped s shared (suc a) t e, run-stopped s shared (suc a) t e, count-stopped s shared b t e))
 
 -- ---- the count against the steps asked for
 
 pub count-most : CountMost
 count-most s shared zero t = omega (arith, count-none s shared t)
-count-most s shared (suc k) t = count-most-by s shared k t (isReady (t .kind)) refl (count-most s shared k (step s shared t))
+count-most s shared (suc k) t =
+    let h = count-most s shared k (step s shared t) in
+    either-way (isReady (t .kind)) (λ e. omega (arith, count-ready s shared k t e)) (λ e. omega (arith, count-stopped s shared (suc k) t e))
 
 -- a session that is still ready did all of them
 pub count-all : CountAll
 count-all s shared zero t h = count-none s shared t
-count-all s shared (suc k) t h = count-all-by s shared k t (isReady (t .kind)) refl h (count-all s shared k (step s shared t))
+count-all s shared (suc k) t h =
+    either-way (isReady (t .kind))
+    (λ e. count-ready s shared k t e ∙ ap suc (count-all s shared k (step s shared t) (rw (run-suc s shared k t) at h)))
+    (λ e. absurd (false≢true (sym e ∙ (rw (run-stopped s shared (suc k) t e) at h))))
 
 -- and one that did fewer is not ready
 pub count-less : CountLess
-count-less s shared k t l = go (isReady (run s shared k t .kind)) refl
-  where
-    go : (x : Bool) → isReady (run s shared k t .kind) ≡ x → isReady (run s shared k t .kind) ≡ false
-    go true e = absurd (omega (arith, count-all s shared k t e))
-    go false e = e
+count-less s shared k t l = either-way (isReady (run s shared k t .kind)) (λ e. absurd (omega (arith, count-all s shared k t e))) (λ e. e)
 
 -- the steps done are all that a turn does
 pub count-run : CountRun
 count-run s shared zero t = rw (count-none s shared t)
-count-run s shared (suc k) t = count-run-by s shared k t (isReady (t .kind)) refl (count-run s shared k (step s shared t))
+count-run s shared (suc k) t =
+    either-way (isReady (t .kind))
+    (λ e. rw (count-ready s shared k t e, run-suc s shared k t, run-suc s shared (stepsDone s shared k (step s shared t)) t) (count-run s shared k (step s shared t)))
+    (λ e. rw (count-stopped s shared (suc k) t e, run-none s shared t) (run-stopped s shared (suc k) t e))

@@ -2,139 +2,126 @@
 -- Above: Promises. Below: sound's facts, entry's laws of a list of checks, opening's of the lowest gap, the laws of the start.
 use mathlib.Core.Logic.{_↔_}
 use mathlib.Core.Path.{_≡_, refl, sym, ap, _∙_}
-use mathlib.Core.List.{List, [], _∷_}
-use mathlib.Core.Bool.{Bool, true, false, cond, _&&_, _||_, not, false≢true, or-true}
-use Prim.Native.Nat.{ℕ, zero, suc, _+_, _-_, _%_, _≤_, _<_}
+use mathlib.Core.List.{List}
+use mathlib.Core.Bool.{true, false, not, false≢true, or-true}
+use Prim.Native.Nat.{ℕ, _+_, _-_, _%_, _≤_, _<_}
 use native.Mathlib.Omega.{arith}
 use lib.Dec.{leb, eqb}
-use lib.ListN.{length, getD, set, replicate, length-set, length-replicate}
+use lib.ListN.{length, set, replicate, length-set, length-replicate}
 use lib.Seq.{getD-set-other}
 use borrow.Author.Tests.{leb-true, eq-eqb, not-true}
-use Rattle.basis.specs.Bools.{every}
-use Rattle.basis.proofs.Bools.{every-holds, holds-every, and-fst, and-snd}
-use Rattle.basis.specs.Part.{splice}
+use Rattle.basis.proofs.Bools.{every-holds, holds-every, and-snd, both-true, or-cases}
 use Rattle.basis.proofs.Part.{length-splice}
 use Rattle.basis.specs.Checks.{passed, refused}
-use Rattle.basis.proofs.Checks.{Passing, never, is-passed, all-passed}
-use Rattle.sound.specs.Below.{judged, Cpu, startOf}
-use Rattle.sound.specs.Bench.{codeOf, slotAt, slotOf, noSlot, noSession, World, worldOf, sessionAt, at-sessions, at-slots}
-use Rattle.sound.specs.Sound.{all, limitsOk, slotOk, placed, apart, allApart, sessionOk, soundB, Sound}
+use Rattle.basis.proofs.Checks.{never, is-passed, all-passed}
+use Rattle.sound.specs.Below.{judged, startOf}
+use Rattle.sound.specs.Bench.{codeOf, slotAt, slotOf, noSlot, noSession, World, worldOf, sessionAt, at-slots}
+use Rattle.sound.specs.Sound.{limitsOk, slotOk, placed, apart, sessionOk, soundB, Sound}
 use Rattle.sound.specs.declared.Slot.{Slot}
 use Rattle.sound.specs.declared.Session.{Session}
-use Rattle.sound.specs.declared.Bench.{Bench}
 use Rattle.sound.proofs.Below.{start-ok}
-use Rattle.sound.proofs.Lists.{all-at, all-imp, all-put, apart-put}
-use Rattle.sound.proofs.Facts.{Parts, put-together, parts, long, opened, slot-good}
+use Rattle.sound.proofs.Lists.{either-way, all-at, all-imp, all-put, apart-put}
+use Rattle.sound.proofs.Facts.{put-together, parts, long, opened, slot-good}
 use Rattle.entry.specs.declared.Gap.{Gap}
 use Rattle.entry.specs.declared.Gap.the-variants.{At, Full}
-use Rattle.entry.specs.declared.Answer.the-variants.{Done, Refused}
-use Rattle.entry.specs.Answer.{answerRuling, Result, refusing}
-use Rattle.entry.specs.Entries.{emptyBench, newOf, loadedSlot, rangeOk, loadOf, lenOk, recordFor, clearOf, gapAt, gapOf, gapFor, found, placeIn, cleared, fresh, openOf, openAt, closeOf}
+use Rattle.entry.specs.Answer.{answerRuling}
+use Rattle.entry.specs.Entries.{loadedAt, newOf, loadedSlot, rangeOk, loadOf, lenOk, recordFor, clearOf, gapAt, gapOf, gapFor, found, placeIn, cleared, fresh, openOf, closeOf}
 use Rattle.entry.proofs.Refusing.{by-checks}
 use Rattle.entry_open.proofs.Lowest.{lowest-passes}
 
 module _ (store : List ℕ) (w : World) (g : Sound store w) where
   -- record i replaced, and a part of memory cleared
-  replaced-good : (i : ℕ) (se : Session) (base len : ℕ) → base + len ≤ length (w .mem) → placed (w .bench .n) (w .bench .s) se ≡ true → sessionOk store (w .bench .slots) se ≡ true → ((j : ℕ) → j < length (w .bench .sessions) → (j ≡ i → ⊥) → (apart se (sessionAt w j) ≡ true) × (apart (sessionAt w j) se ≡ true)) → Sound store (cleared i se base len w)
+  replaced-good : (i : ℕ) (se : Session) (base len : ℕ) → base + len ≤ length (w .mem) → placed (w .bench .n) (w .bench .s) se ≡ true
+      → sessionOk store (w .bench .slots) se ≡ true
+      → ((j : ℕ) → j < length (w .bench .sessions) → (j ≡ i → ⊥) → (apart se (sessionAt w j) ≡ true) × (apart (sessionAt w j) se ≡ true))
+      → Sound store (cleared i se base len w)
   replaced-good i se base len f pl ok lone =
       let p = parts store w g in
-      let l : length (splice base (base + len) (replicate len 0) (w .mem)) ≡ length (w .mem) = length-splice base (base + len) (w .mem) (omega arith) f (replicate len 0) (length-replicate len 0 ∙ omega arith) in
+      let l = w .bench .sessions in
+      let long = length-splice base (base + len) (w .mem) (omega arith) f (replicate len 0) (length-replicate len 0 ∙ omega arith) in
       record {
-        sixteen = length-set (w .bench .sessions) i se ∙ g .sixteen;
+        sixteen = length-set l i se ∙ g .sixteen;
         sound =
-            put-together (cleared i se base len w .bench) (cleared i se base len w .mem) store
+            put-together _ _ store
             (record {
               limits = p .limits;
-              sized = rw l (p .sized);
+              sized = rw long (p .sized);
               slots = p .slots;
-              places = all-put (placed (w .bench .n) (w .bench .s)) (w .bench .sessions) i se (p .places) pl;
-              lone = apart-put (w .bench .sessions) i se noSession (p .lone) lone;
-              sessions = all-put (sessionOk store (w .bench .slots)) (w .bench .sessions) i se (p .sessions) ok;
+              places = all-put (placed (w .bench .n) (w .bench .s)) l i se (p .places) pl;
+              lone = apart-put l i se noSession (p .lone) lone;
+              sessions = all-put (sessionOk store (w .bench .slots)) l i se (p .sessions) ok;
             });
       }
-
-  unused-placed : placed (w .bench .n) (w .bench .s) noSession ≡ true
-  unfolding placed
-  unused-placed = refl
-
-  unused-ok : sessionOk store (w .bench .slots) noSession ≡ true
-  unfolding sessionOk
-  unused-ok = refl
 
   unused-apart : (se : Session) → (apart noSession se ≡ true) × (apart se noSession ≡ true)
   unfolding apart
   unused-apart se = (refl, or-true (not (se .used)))
 
   pub close-sound : (i : ℕ) → Sound store (closeOf store i w .world)
-  unfolding closeOf
+  unfolding closeOf placed sessionOk
   close-sound i =
       by-checks (λ r. Sound store (r .world)) _ w _ (λ _ _. g)
       (λ p. replaced-good i noSession (sessionAt w i .base) (sessionAt w i .len)
-      (opened store w g i (and-snd (leb i 15) (sessionAt w i .used) (p .1 .0)) .inside)
-      unused-placed unused-ok (λ j o n. unused-apart (sessionAt w j)))
+      (opened store w g i (and-snd (leb i 15) (sessionAt w i .used) (p .1 .0)) .inside) refl refl (λ j o n. unused-apart (sessionAt w j)))
 
-  module _ (slot len : ℕ) (o : leb slot 15 ≡ true) (ld : slotAt (w .bench .slots) slot .loaded ≡ true) (lk : lenOk (codeOf store (slotAt (w .bench .slots) slot)) len ≡ true) where
-    c : Cpu
-    c = startOf (codeOf store (slotAt (w .bench .slots) slot)) len
+  module _ (slot len : ℕ) (loaded : loadedAt w slot ≡ true) (lk : lenOk (codeOf store (slotAt (w .bench .slots) slot)) len ≡ true) where
+    abbrev code : List ℕ
+    code = codeOf store (slotAt (w .bench .slots) slot)
 
-    fresh-apart : (a : ℕ) (se : Session) → clearOf a len se ≡ true → (apart (fresh slot a len c) se ≡ true) × (apart se (fresh slot a len c) ≡ true)
+    abbrev opening : ℕ → Session
+    opening a = fresh slot a len (startOf code len)
+
+    fresh-apart : (a : ℕ) (se : Session) → clearOf a len se ≡ true → (apart (opening a) se ≡ true) × (apart se (opening a) ≡ true)
     unfolding apart
-    fresh-apart a se h = (h, go (se .used) refl)
-      where
-        go : (v : Bool) → se .used ≡ v → apart se (fresh slot a len c) ≡ true
-        go true u = rw u (or-comm (leb (a + len) (se .base)) (leb (se .base + se .len) a) (rw u at h))
-          where
-            or-comm : (x y : Bool) → (x || y) ≡ true → (y || x) ≡ true
-            or-comm true y q = or-true y
-            or-comm false y q = rw q
-        go false u = rw u
+    fresh-apart a se h = (
+      h,
+      either-way (se .used)
+          (λ u. or-cases (leb (a + len) (se .base)) (leb (se .base + se .len) a) (rw u at h) (λ q. rw (u, q) (or-true (leb (se .base + se .len) a))) (λ q. rw (u, q)))
+          (λ u. rw u),
+    )
 
-    fresh-ok : (a : ℕ) → sessionOk store (w .bench .slots) (fresh slot a len c) ≡ true
-    unfolding sessionOk lenOk c
+    fresh-ok : (a : ℕ) → sessionOk store (w .bench .slots) (opening a) ≡ true
+    unfolding sessionOk lenOk
     fresh-ok a =
         let y = every-holds _ lk in
-        holds-every _ (o, (ld, (y .0, (y .1 .0, (start-ok (codeOf store (slotAt (w .bench .slots) slot)) len (slot-good store w g slot ld) (leb-true _ _ (y .0)) (leb-true _ _ (y .1 .1 .0)), tt)))))
+        let at = both-true (leb slot 15) (slotAt (w .bench .slots) slot .loaded) loaded in
+        let start = start-ok code len (slot-good store w g slot (at .1)) (leb-true _ _ (y .0)) (leb-true _ _ (y .1 .1 .0)) in
+        holds-every _ (at .0, (at .1, (y .0, (y .1 .0, (start, tt)))))
 
-    opens-by : (i : ℕ) (r : Gap) → gapFor w len ≡ r → found r ≡ true → Sound store (cleared i (fresh slot (placeIn r) len c) (placeIn r) len w)
+    opens-by : (i : ℕ) (r : Gap) → gapFor w len ≡ r → found r ≡ true → Sound store (cleared i (opening (placeIn r)) (placeIn r) len w)
     unfolding gapOf gapAt placed
     opens-by i Full e h = absurd (false≢true h)
     opens-by i (At a) e h =
         let x = every-holds _ (lowest-passes (gapAt (w .bench .sessions) (w .bench .s) (w .bench .n) len) (w .bench .n + 1) 0 a e) in
         let f : a + len ≤ length (w .mem) = rw (long store w g) (leb-true _ _ (x .1 .0)) in
-        replaced-good i (fresh slot a len c) a len f (holds-every _ (x .0, (x .1 .0, tt))) (fresh-ok a)
+        replaced-good i (opening a) a len f (holds-every _ (x .0, (x .1 .0, tt))) (fresh-ok a)
         (λ j q n. fresh-apart a (sessionAt w j) (all-at (clearOf a len) (w .bench .sessions) j noSession (x .1 .1 .0) q))
 
   pub open-sound : (slot len : ℕ) → Sound store (openOf store slot len w .world)
-  unfolding openOf c
+  unfolding openOf
   open-sound slot len =
       by-checks (λ r. Sound store (r .world)) _ w _ (λ _ _. g)
-      (λ p. opens-by slot len (and-fst (leb slot 15) (slotAt (w .bench .slots) slot .loaded) (p .1 .0)) (and-snd (leb slot 15) (slotAt (w .bench .slots) slot .loaded) (p .1 .0)) (p .1 .1 .0) (recordFor w) (gapFor w len) refl (p .1 .1 .1 .1 .0))
+      (λ p. opens-by slot len (p .1 .0) (p .1 .1 .0) (recordFor w) (gapFor w len) refl (p .1 .1 .1 .1 .0))
 
 module _ (store : List ℕ) (w : World) (g : Sound store w) (slot start len : ℕ) (free : slotAt (w .bench .slots) slot .loaded ≡ false) where
-  slots′ : List Slot
+  abbrev slots′ : List Slot
   slots′ = set (w .bench .slots) slot (loadedSlot start len)
 
   -- a session that is open names another slot
   same-slot : (se : Session) → slotOf (w .bench .slots) se .loaded ≡ true → slotOf slots′ se ≡ slotOf (w .bench .slots) se
-  unfolding slots′
   same-slot se h =
       getD-set-other (w .bench .slots) slot (se .slot) (loadedSlot start len) noSlot
       (λ e. false≢true (sym free ∙ ap (λ (x : ℕ). slotAt (w .bench .slots) x .loaded) (sym e) ∙ h))
 
   still-ok : (se : Session) → sessionOk store (w .bench .slots) se ≡ true → sessionOk store slots′ se ≡ true
   unfolding sessionOk
-  still-ok se h = go (se .used) refl h
-    where
-      go : (v : Bool) → se .used ≡ v → sessionOk store (w .bench .slots) se ≡ true → sessionOk store slots′ se ≡ true
-      go true u q =
-          let a = every-holds _ (rw u at q) in
-          rw (same-slot se (a .1 .0)) q
-      go false u q = rw u
+  still-ok se h = either-way (se .used) (λ u. let a = every-holds _ (rw u at h) in rw (same-slot se (a .1 .0)) h) (λ u. rw u)
 
   loaded-good : rangeOk store start len ≡ true → judged (codeOf store (loadedSlot start len)) ≡ passed → Sound store (worldOf (at-slots (w .bench) slots′) (w .mem))
-  unfolding slots′ slotOk
+  unfolding slotOk
   loaded-good r j =
       let p = parts store w g in
+      let within = and-snd (eqb (start % 2) 0) (leb (start + len) (length store)) r in
       record {
         sixteen = g .sixteen;
         sound =
@@ -142,7 +129,7 @@ module _ (store : List ℕ) (w : World) (g : Sound store w) (slot start len : �
             (record {
               limits = p .limits;
               sized = p .sized;
-              slots = all-put (slotOk store) (w .bench .slots) slot (loadedSlot start len) (p .slots) (holds-every _ (and-snd (eqb (start % 2) 0) (leb (start + len) (length store)) r, (is-passed _ j, tt)));
+              slots = all-put (slotOk store) (w .bench .slots) slot (loadedSlot start len) (p .slots) (holds-every _ (within, (is-passed _ j, tt)));
               places = p .places;
               lone = p .lone;
               sessions = all-imp (sessionOk store (w .bench .slots)) (sessionOk store slots′) (w .bench .sessions) still-ok (p .sessions);
@@ -150,29 +137,21 @@ module _ (store : List ℕ) (w : World) (g : Sound store w) (slot start len : �
       }
 
 pub load-sound : (store : List ℕ) (w : World) → Sound store w → (slot start len : ℕ) → Sound store (loadOf store slot start len w .world)
-unfolding loadOf slots′ judged
+unfolding loadOf judged
 load-sound store w g slot start len =
     by-checks (λ r. Sound store (r .world)) _ w _ (λ _ _. g)
-    (λ p. loaded-good store w g slot start len (not-true _ (and-snd (leb slot 15) (not (slotAt (w .bench .slots) slot .loaded)) (p .1 .0))) (p .1 .1 .0) (all-passed _ (p .1 .1 .1)))
+    (λ p.
+    let free = and-snd (leb slot 15) (not (slotAt (w .bench .slots) slot .loaded)) (p .1 .0) in
+    loaded-good store w g slot start len (not-true _ free) (p .1 .1 .0) (all-passed _ (p .1 .1 .1)))
 
 -- a new bench is refused exactly where its limits are not kept
 pub new-answers : (n s : ℕ) → (answerRuling (newOf n s .answer) ≡ refused 17 0) ↔ (limitsOk n s ≡ false)
 unfolding newOf
-new-answers n s = (go (limitsOk n s) refl, λ h. rw h)
-  where
-    go : (b : Bool) → limitsOk n s ≡ b → answerRuling (newOf n s .answer) ≡ refused 17 0 → limitsOk n s ≡ false
-    go true l h = absurd (never (rw l) h)
-    go false l h = l
+new-answers n s = (λ h. either-way (limitsOk n s) (λ l. absurd (never (rw l) h)) (λ l. l), λ h. rw h)
 
 pub new-sound : (store m : List ℕ) (n s : ℕ) → answerRuling (newOf n s .answer) ≡ passed → length m ≡ n → Sound store (worldOf (newOf n s .bench) m)
 unfolding newOf soundB slotOk placed sessionOk apart
-new-sound store m n s h e = go (limitsOk n s) refl h
-  where
-    go : (b : Bool) → limitsOk n s ≡ b → answerRuling (newOf n s .answer) ≡ passed → Sound store (worldOf (newOf n s .bench) m)
-    go true l h =
-        rw l
-        (record {
-          sixteen = refl;
-          sound = holds-every _ (l, (eq-eqb (length m) n e, (refl, (refl, (refl, (refl, tt))))));
-        })
-    go false l h = absurd (never {n = 17} {p = 0} h (rw l))
+new-sound store m n s h e =
+    either-way (limitsOk n s)
+    (λ l. rw l (record { sixteen = refl; sound = holds-every _ (l, (eq-eqb (length m) n e, (refl, (refl, (refl, (refl, tt)))))) }))
+    (λ l. absurd (never {n = 17} {p = 0} h (rw l)))

@@ -3,75 +3,65 @@
 use mathlib.Core.Path.{_≡_, refl, sym, ap, _∙_}
 use mathlib.Core.List.{List, [], _∷_}
 use mathlib.Core.Logic.{_↔_}
-use mathlib.Core.Bool.{Bool, true, false, cond, _&&_, _||_, not, false≢true}
+use mathlib.Core.Bool.{Bool, true, false, false≢true, or-true}
 use Prim.Native.Nat.{ℕ, zero, suc, _+_, _-_, _≤_, _<_}
 use native.Mathlib.Omega.{arith}
 use native.Mathlib.Decide.{decLt, decLe}
 use lib.Dec.{leb}
-use lib.ListN.{length, getD, set}
+use lib.ListN.{length, getD}
 use lib.Seq.{getD-set-same}
 use borrow.Author.Tests.{leb-true, le-leb, not-true, not-false}
 use Rattle.basis.proofs.Bools.{every-holds, holds-every, or-cases}
 use Rattle.sound.specs.Below.{startOf}
-use Rattle.sound.specs.Bench.{noSession, codeOf, slotAt, World, worldOf, sessionAt}
-use Rattle.sound.specs.Sound.{all, Sound}
-use Rattle.sound.specs.declared.Session.{Session}
-use Rattle.sound.proofs.Lists.{all-at, all-from}
+use Rattle.sound.specs.Bench.{noSession, codeOf, slotAt, World, sessionAt}
+use Rattle.sound.specs.Sound.{Sound}
+use Rattle.sound.proofs.Lists.{either-way, decided, all-at, all-from}
 use Rattle.sound.proofs.Facts.{long, used-in, opened}
 use Rattle.entry.specs.declared.Gap.{Gap}
 use Rattle.entry.specs.declared.Gap.the-variants.{At, Full}
-use Rattle.entry.specs.declared.Answer.the-variants.{Done, Refused}
+use Rattle.entry.specs.declared.Answer.the-variants.{Done}
 use Rattle.basis.specs.Checks.{check, refused}
 use Rattle.basis.proofs.Checks.{Passing, never}
-use Rattle.entry.specs.Answer.{answerRuling, Result, refusing}
-use Rattle.entry.specs.Entries.{isSound, loadedAt, openChecks, lenOk, firstPlace, unused, recordFor, clearOf, lowest, gapAt, gapOf, gapFor, found, placeIn, cleared, fresh, opens, openOf}
+use Rattle.entry.specs.Answer.{answerRuling, Result}
+use Rattle.entry.specs.Entries.{isSound, loadedAt, openChecks, lenOk, firstPlace, unused, recordFor, clearOf, lowest, gapAt, gapOf, gapFor, found, placeIn, fresh, opens, openOf}
 use Rattle.entry.proofs.Refusing.{passes, stops, by-checks}
 use Rattle.entry_open.proofs.Lowest.{first-at, lowest-passes}
-use Rattle.promises.specs.Words.{InRegion, Free, GapFrom, Opens}
+use Rattle.promises.specs.Words.{GapFrom, Opens}
 use Rattle.promises.proofs.Zeros.{zeroed, only}
 
 -- ---- the lowest of a search
 
--- none below the one found
-lowest-least : (p : ℕ → Bool) (f a c : ℕ) → lowest p f a ≡ At c → (b : ℕ) → a ≤ b → b < c → p b ≡ false
-lowest-least p zero a c e b g h = let z : _≡_ {A = ℕ} 0 1 = cc in absurd (omega arith)
-lowest-least p (suc f) a c e b g h = go (p a) refl (λ u k. lowest-least p f (a + 1) c u b k h) e
-  where
-    go : (v : Bool) → p a ≡ v → (lowest p f (a + 1) ≡ At c → a + 1 ≤ b → p b ≡ false) → cond v (At a) (lowest p f (a + 1)) ≡ At c → p b ≡ false
-    go true w r u = let z : a ≡ c = cc in absurd (omega arith)
-    go false w r u = by (decLt a b)
-      where
-        by : Dec (a < b) → p b ≡ false
-        by (yes q) = r u (omega arith)
-        by (no q) = let z : b ≡ a = omega arith in rw z w
+-- where a search stops: at the one found, or at the end
+abbrev stop : ℕ → Gap → ℕ
+stop end (At c) = c
+stop end Full = end
 
--- none at all where none is found
-lowest-full : (p : ℕ → Bool) (f a : ℕ) → lowest p f a ≡ Full → (b : ℕ) → a ≤ b → b < a + f → p b ≡ false
-lowest-full p zero a e b g h = absurd (omega arith)
-lowest-full p (suc f) a e b g h = go (p a) refl (λ u k. lowest-full p f (a + 1) u b k (omega arith)) e
-  where
-    go : (v : Bool) → p a ≡ v → (lowest p f (a + 1) ≡ Full → a + 1 ≤ b → p b ≡ false) → cond v (At a) (lowest p f (a + 1)) ≡ Full → p b ≡ false
-    go true w r u = let z : _≡_ {A = ℕ} 0 1 = cc in absurd (omega arith)
-    go false w r u = by (decLt a b)
-      where
-        by : Dec (a < b) → p b ≡ false
-        by (yes q) = r u (omega arith)
-        by (no q) = let z : b ≡ a = omega arith in rw z w
+-- none passes before that
+lowest-none : (p : ℕ → Bool) (f a end b : ℕ) → a + f ≡ end → a ≤ b → b < stop end (lowest p f a) → p b ≡ false
+lowest-none p zero a end b e g h = absurd (omega arith)
+lowest-none p (suc f) a end b e g h =
+    either-way (p a)
+    (λ w. let z : b < a = rw w at h in absurd (omega arith))
+    (λ w. decided (decLt a b)
+    (λ q. lowest-none p f (a + 1) end b (omega arith) (omega arith) (rw w at h))
+    (λ q. let z : b ≡ a = omega arith in rw z w))
 
 -- below the first that passes, none does
 first-least : {A : Type 0} (p : A → Bool) (l : List A) (d : A) (j : ℕ) → j < firstPlace p l → p (getD l j d) ≡ false
 first-least p [] d j h = absurd (omega arith)
-first-least p (x ∷ l) d j h = go (p x) refl j h (λ i o. first-least p l d i o)
-  where
-    go : (b : Bool) → p x ≡ b → (i : ℕ) → i < cond b 0 (firstPlace p l + 1) → ((k : ℕ) → k < firstPlace p l → p (getD l k d) ≡ false) → p (getD (x ∷ l) i d) ≡ false
-    go true e i o r = absurd (omega arith)
-    go false e zero o r = e
-    go false e (suc i) o r = r i (omega arith)
+first-least p (x ∷ l) d zero h = either-way (p x) (λ e. let z : 0 < 0 = rw e at h in absurd (omega arith)) (λ e. e)
+first-least p (x ∷ l) d (suc j) h =
+    either-way (p x)
+    (λ e. let z : suc j < 0 = rw e at h in absurd (omega arith))
+    (λ e. let z : suc j < firstPlace p l + 1 = rw e at h in first-least p l d j (omega arith))
 
 -- ---- gaps, as the test and word by word
 
 module _ (store : List ℕ) (w : World) (g : Sound store w) (len : ℕ) where
-  gap-free : (a : ℕ) → gapAt (w .bench .sessions) (w .bench .s) (w .bench .n) len a ≡ true → GapFrom w len a
+  abbrev gap : ℕ → Bool
+  gap = gapAt (w .bench .sessions) (w .bench .s) (w .bench .n) len
+
+  gap-free : (a : ℕ) → gap a ≡ true → GapFrom w len a
   unfolding gapAt
   gap-free a h j p q =
       let x = every-holds _ h in
@@ -89,58 +79,43 @@ module _ (store : List ℕ) (w : World) (g : Sound store w) (len : ℕ) where
       }
 
   -- a region that is in nobody's way
-  clear-by : (a k : ℕ) → GapFrom w len a → 1 ≤ len → (b : Bool) → sessionAt w k .used ≡ b → clearOf a len (sessionAt w k) ≡ true
-  clear-by a k f o false u = rw u
-  clear-by a k f o true u = rw u (by (decLe (a + len) (sessionAt w k .base)) (decLe (sessionAt w k .base + sessionAt w k .len) a))
-    where
-      most : 16 ≤ sessionAt w k .len
-      most = opened store w g k u .least
+  clear-at : (a k : ℕ) → GapFrom w len a → 1 ≤ len → clearOf a len (sessionAt w k) ≡ true
+  clear-at a k f o =
+      let b = sessionAt w k .base in
+      let e = sessionAt w k .base + sessionAt w k .len in
+      either-way (sessionAt w k .used)
+      (λ u. rw u
+      (decided (decLe (a + len) b)
+      (λ h. rw (le-leb (a + len) b h))
+      (λ h. decided (decLe e a)
+      (λ q. rw (le-leb e a q) (or-true (leb (a + len) b)))
+      (λ q. absurd
+      (decided (decLe a b)
+      (λ t. f b t (omega arith) .nobodys k (record { used = u; low = omega arith; high = omega (arith, opened store w g k u .least) }))
+      (λ t. f a (omega arith) (omega arith) .nobodys k (record { used = u; low = omega arith; high = omega arith })))))))
+      (λ u. rw u)
 
-      at-base : a ≤ sessionAt w k .base → sessionAt w k .base < a + len → ⊥
-      at-base p q =
-          f (sessionAt w k .base) p q .nobodys k (record { used = u; low = omega arith; high = omega (arith, most) })
-
-      at-start : sessionAt w k .base ≤ a → a < sessionAt w k .base + sessionAt w k .len → ⊥
-      at-start p q = f a (omega arith) (omega arith) .nobodys k (record { used = u; low = p; high = q })
-
-      none : (sessionAt w k .base < a + len) → (a < sessionAt w k .base + sessionAt w k .len) → Dec (a ≤ sessionAt w k .base) → ⊥
-      none p q (yes h) = at-base h p
-      none p q (no h) = at-start (omega arith) q
-
-      by : Dec (a + len ≤ sessionAt w k .base) → Dec (sessionAt w k .base + sessionAt w k .len ≤ a) → (leb (a + len) (sessionAt w k .base) || leb (sessionAt w k .base + sessionAt w k .len) a) ≡ true
-      by (yes h) d = rw (le-leb (a + len) (sessionAt w k .base) h)
-      by (no h) (yes q) = rw (le-leb (sessionAt w k .base + sessionAt w k .len) a q) (or-last (leb (a + len) (sessionAt w k .base)))
-        where
-          or-last : (b : Bool) → (b || true) ≡ true
-          or-last true = refl
-          or-last false = refl
-      by (no h) (no q) = absurd (none (omega arith) (omega arith) (decLe a (sessionAt w k .base)))
-
-  free-gap : (a : ℕ) → 1 ≤ len → GapFrom w len a → gapAt (w .bench .sessions) (w .bench .s) (w .bench .n) len a ≡ true
+  free-gap : (a : ℕ) → 1 ≤ len → GapFrom w len a → gap a ≡ true
   unfolding gapAt
   free-gap a o f =
       let lo = f a (omega arith) (omega arith) .unshared in
       let hi = f (a + len - 1) (omega arith) (omega arith) .inside in
       let end : a + len ≤ w .bench .n = omega (arith, hi) in
-      holds-every _ (le-leb _ _ lo, (le-leb _ _ end, (all-from (clearOf a len) (w .bench .sessions) noSession (λ k q. clear-by a k f o (sessionAt w k .used) refl), tt)))
+      let clear = all-from (clearOf a len) (w .bench .sessions) noSession (λ k q. clear-at a k f o) in
+      holds-every _ (le-leb _ _ lo, (le-leb _ _ end, (clear, tt)))
 
-  free-low : (a : ℕ) → 1 ≤ len → GapFrom w len a → a < 0 + (w .bench .n + 1)
-  free-low a o f = let hi = f a (omega arith) (omega arith) .inside in omega (arith, hi)
+  -- before the place where the search stopped there is none; so no gap is found exactly where there is none
+  none-before : (r : Gap) → gapFor w len ≡ r → 1 ≤ len → (b : ℕ) → b < stop (w .bench .n + 1) r → GapFrom w len b → ⊥
+  unfolding gapOf
+  none-before r e o b h f =
+      false≢true (sym (lowest-none gap (w .bench .n + 1) 0 (w .bench .n + 1) b (omega arith) (omega arith) (rw e h)) ∙ free-gap b o f)
 
-  -- no gap is found exactly where there is none
   none-found : gapFor w len ≡ Full → 1 ≤ len → (a : ℕ) → GapFrom w len a → ⊥
-  unfolding gapOf
-  none-found e o a f =
-      false≢true (sym (lowest-full (gapAt (w .bench .sessions) (w .bench .s) (w .bench .n) len) (w .bench .n + 1) 0 e a (omega arith) (free-low a o f)) ∙ free-gap a o f)
+  none-found e o a f = let hi = f a (omega arith) (omega arith) .inside in none-before Full e o a (omega (arith, hi)) f
 
-  least-found : (a : ℕ) → gapFor w len ≡ At a → 1 ≤ len → (b : ℕ) → b < a → GapFrom w len b → ⊥
+  is-gap : (a : ℕ) → gapFor w len ≡ At a → gap a ≡ true
   unfolding gapOf
-  least-found a e o b h f =
-      false≢true (sym (lowest-least (gapAt (w .bench .sessions) (w .bench .s) (w .bench .n) len) (w .bench .n + 1) 0 a e b (omega arith) h) ∙ free-gap b o f)
-
-  is-gap : (a : ℕ) → gapFor w len ≡ At a → gapAt (w .bench .sessions) (w .bench .s) (w .bench .n) len a ≡ true
-  unfolding gapOf
-  is-gap a e = lowest-passes (gapAt (w .bench .sessions) (w .bench .s) (w .bench .n) len) (w .bench .n + 1) 0 a e
+  is-gap a e = lowest-passes gap (w .bench .n + 1) 0 a e
 
   gap-in : (a : ℕ) → gapFor w len ≡ At a → a + len ≤ length (w .mem)
   unfolding gapAt
@@ -153,48 +128,50 @@ len-some code len h = let q : 16 ≤ len = leb-true _ _ (every-holds _ h .0) in 
 -- ---- the two promises
 
 module _ (store : List ℕ) (w : World) (slot len : ℕ) (g : Sound store w) where
-  code : List ℕ
+  abbrev code : List ℕ
   code = codeOf store (slotAt (w .bench .slots) slot)
+
+  -- an opening that passes its checks, at this place
+  abbrev opening : ℕ → Result
+  opening a = opens slot len (startOf code len) (recordFor w) a w
 
   module _ (ld : loadedAt w slot ≡ true) (lk : lenOk (codeOf store (slotAt (w .bench .slots) slot)) len ≡ true) (left : recordFor w ≤ 15) where
     number-by : (r : Gap) → gapFor w len ≡ r → answerRuling (openOf store slot len w .answer) ≡ refused 15 0 → r ≡ Full
     unfolding openOf
     number-by Full e n = refl
     number-by (At a) e n =
-        let q = passes (openChecks store slot len w) w (opens slot len (startOf (codeOf store (slotAt (w .bench .slots) slot)) len) (recordFor w) (placeIn (gapFor w len)) w) (g .sound, (ld, (lk, (le-leb _ _ left, (ap found e, tt))))) in
+        let q = passes (openChecks store slot len w) w (opening (placeIn (gapFor w len))) (g .sound, (ld, (lk, (le-leb _ _ left, (ap found e, tt))))) in
         absurd (never (ap (λ (r : Result). answerRuling (r .answer)) q) n)
 
     refused-by : (r : Gap) → gapFor w len ≡ r → ((a : ℕ) → GapFrom w len a → ⊥) → answerRuling (openOf store slot len w .answer) ≡ refused 15 0
     unfolding openOf
     refused-by Full e n =
         ap (λ (r : Result). answerRuling (r .answer))
-        (stops (check 11 0 (isSound store w) ∷ check 12 0 (loadedAt w slot) ∷ check 13 0 (lenOk (codeOf store (slotAt (w .bench .slots) slot)) len) ∷ check 14 0 (leb (recordFor w) 15) ∷ []) 15 (found (gapFor w len)) [] w
-        (opens slot len (startOf (codeOf store (slotAt (w .bench .slots) slot)) len) (recordFor w) (placeIn (gapFor w len)) w)
-        (g .sound, (ld, (lk, (le-leb _ _ left, tt)))) (ap found e))
+        (stops (check 11 0 (isSound store w) ∷ check 12 0 (loadedAt w slot) ∷ check 13 0 (lenOk code len) ∷ check 14 0 (leb (recordFor w) 15) ∷ []) 15
+        (found (gapFor w len)) [] w (opening (placeIn (gapFor w len))) (g .sound, (ld, (lk, (le-leb _ _ left, tt)))) (ap found e))
     refused-by (At a) e n = absurd (n a (gap-free store w g len a (is-gap store w g len a e)))
 
     pub fifteen : (answerRuling (openOf store slot len w .answer) ≡ refused 15 0) ↔ ((a : ℕ) → GapFrom w len a → ⊥)
-    fifteen =
-        (λ n. none-found store w g len (number-by (gapFor w len) refl n) (len-some (codeOf store (slotAt (w .bench .slots) slot)) len lk), refused-by (gapFor w len) refl)
+    fifteen = (λ n. none-found store w g len (number-by (gapFor w len) refl n) (len-some code len lk), refused-by (gapFor w len) refl)
 
   -- what an opening that is done has done
-  done-by : Passing (openChecks store slot len w) → (r : Gap) → gapFor w len ≡ r → Opens store slot len w (cleared (recordFor w) (fresh slot (placeIn r) len (startOf (codeOf store (slotAt (w .bench .slots) slot)) len)) (placeIn r) len w) (recordFor w)
+  done-by : Passing (openChecks store slot len w) → (r : Gap) → gapFor w len ≡ r → Opens store slot len w (opening (placeIn r) .world) (recordFor w)
   done-by p Full e = absurd (false≢true (sym (ap found e) ∙ p .1 .1 .1 .1 .0))
   done-by p (At a) e =
       let lo : recordFor w ≤ 15 = leb-true _ _ (p .1 .1 .1 .0) in
-      let some = len-some (codeOf store (slotAt (w .bench .slots) slot)) len (p .1 .1 .0) in
       let inl : recordFor w < length (w .bench .sessions) = rw (g .sixteen) (omega (arith, lo)) in
+      let se = fresh slot a len (startOf code len) in
       let f = gap-in store w g len a e in
       record {
         place = a;
         gap = gap-free store w g len a (is-gap store w g len a e);
-        lowest-gap = least-found store w g len a e some;
+        lowest-gap = none-before store w g len (At a) e (len-some code len (p .1 .1 .0));
         low = lo;
         unused = not-true _ (first-at unused (w .bench .sessions) noSession inl);
         lowest-record = λ j h. not-false _ (first-least unused (w .bench .sessions) noSession j h);
-        made = getD-set-same (w .bench .sessions) (recordFor w) (fresh slot a len (startOf (codeOf store (slotAt (w .bench .slots) slot)) len)) noSession inl;
-        only = only w (recordFor w) (fresh slot a len (startOf (codeOf store (slotAt (w .bench .slots) slot)) len)) a len f;
-        zeroed = zeroed w (recordFor w) (fresh slot a len (startOf (codeOf store (slotAt (w .bench .slots) slot)) len)) a len f;
+        made = getD-set-same (w .bench .sessions) (recordFor w) se noSession inl;
+        only = only w (recordFor w) se a len f;
+        zeroed = zeroed w (recordFor w) se a len f;
       }
 
   pub opened-is : (i : ℕ) → openOf store slot len w .answer ≡ Done i → Opens store slot len w (openOf store slot len w .world) i

@@ -2,12 +2,11 @@
 -- allows one answer. Above: demands. Below: Kept, entry's laws of a list of checks; a turn keeps soundness by the registers' ranges.
 use mathlib.Core.Path.{_≡_, refl, sym, ap, _∙_}
 use mathlib.Core.List.{List}
-use mathlib.Core.Bool.{true, _&&_}
+use mathlib.Core.Bool.{true}
 use Prim.Native.Nat.{ℕ, _+_, _-_, _≤_}
 use native.Mathlib.Omega.{arith}
 use lib.Dec.{leb}
-use lib.ListN.{length}
-use Rattle.basis.specs.Checks.{Check, Ruling, passed, refused, ruling}
+use Rattle.basis.specs.Checks.{Ruling, passed, refused, ruling}
 use Rattle.basis.proofs.Bools.{and-snd}
 use Rattle.basis.proofs.Checks.{never}
 use Rattle.basis.proofs.Part.{length-part, length-splice}

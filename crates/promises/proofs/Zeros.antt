@@ -1,14 +1,13 @@
 -- Words set to zero and one record replaced, word by word and record by record.
 -- Above: Openings, Closings. Below: basis's laws of a part replaced.
 use mathlib.Core.Path.{_≡_, refl, sym, ap, _∙_}
-use mathlib.Core.List.{List, [], _∷_}
+use mathlib.Core.List.{List}
 use Prim.Native.Nat.{ℕ, zero, suc, _+_, _-_, _≤_, _<_}
 use native.Mathlib.Omega.{arith}
-use lib.ListN.{length, getD, set, replicate, length-replicate}
+use lib.ListN.{length, getD, replicate, length-replicate}
 use lib.Seq.{getD-set-other}
-use Rattle.basis.specs.Part.{part, splice}
 use Rattle.basis.proofs.Part.{length-splice, getD-part, part-splice, getD-below, getD-above}
-use Rattle.sound.specs.Bench.{noSession, World, sessionAt}
+use Rattle.sound.specs.Bench.{noSession, World}
 use Rattle.sound.specs.declared.Session.{Session}
 use Rattle.entry.specs.Entries.{cleared}
 use Rattle.promises.specs.Words.{Zeroed, OnlyRecord}
@@ -28,12 +27,12 @@ module _ (w : World) (i : ℕ) (se : Session) (a len : ℕ) (f : a + len ≤ len
   in-zero : (j : ℕ) → a ≤ j → j < a + len → getD (cleared i se a len w .mem) j 0 ≡ 0
   in-zero j p q =
       let m = cleared i se a len w .mem in
-      let f′ : a + len ≤ length (cleared i se a len w .mem) = rw (length-splice a (a + len) (w .mem) o f (replicate len 0) l) f in
-      let e : j ≡ a + (j - a) = omega arith in
-      ap (λ (x : ℕ). getD (cleared i se a len w .mem) x 0) e
-      ∙ sym (getD-part a (a + len) (cleared i se a len w .mem) o f′ (j - a) (omega arith))
+      let f′ : a + len ≤ length m = rw (length-splice a (a + len) (w .mem) o f (replicate len 0) l) f in
+      let e : a + (j - a) ≡ j = omega arith in
+      rw e at
+      (sym (getD-part a (a + len) m o f′ (j - a) (omega arith))
       ∙ ap (λ (ws : List ℕ). getD ws (j - a) 0) (part-splice a (a + len) (w .mem) o f (replicate len 0) l)
-      ∙ zeros len (j - a)
+      ∙ zeros len (j - a))
 
   pub zeroed : Zeroed w (cleared i se a len w) a len
   zeroed =

@@ -1,6 +1,6 @@
 -- What a run keeps, and that runs add up: all that the bench knows of the machine.
 -- Above: the bench; below: the laws of `pmachine`, carried over to the code's types.
-use mathlib.Core.Path.{_≡_, refl, sym, ap, _∙_, subst}
+use mathlib.Core.Path.{_≡_, refl, ap, _∙_}
 use mathlib.Core.List.{List}
 use mathlib.Core.Bool.{true}
 use Prim.Native.Nat.{ℕ, _+_, _≤_}
@@ -8,17 +8,16 @@ use lib.ListN.{length}
 use Rattle.segment.specs.Judge.{judged}
 use Rattle.basis.specs.Checks.{passed}
 use Rattle.pmachine.specs.State.{Kind as Kinds, ready, finished, faulted, State}
-use Rattle.pmachine.specs.Sound.{inRange, starting}
-use Rattle.pmachine.specs.Run.{run, stepsDone}
+use Rattle.pmachine.specs.Sound.{starting}
+use Rattle.pmachine.specs.Run.{run}
 use Rattle.pmachine.proofs.Accepted.{loaded}
 use Rattle.pmachine.proofs.Ranges.{in-range}
 use Rattle.pmachine.proofs.Runs.{run-length as machine-length, run-add as machine-add, count-add as machine-counts, run-none as machine-none, count-none as machine-count-none}
 use Rattle.pmachine.proofs.Keeps.{run-keeps as machine-keeps, starting-ranged}
 use Rattle.machine.specs.declared.Kind.{Kind}
 use Rattle.machine.specs.declared.Kind.the-variants.{Ready, Finished, Faulted}
-use Rattle.machine.specs.declared.Cpu.{Cpu}
 use Rattle.machine.specs.Memory.{kindOf}
-use Rattle.session.specs.Session.{SessionState, stateOf, stateFrom, kindFrom, cpuFrom, floorOf, startOf, cpuOk, runOf, countOf}
+use Rattle.session.specs.Session.{SessionState, stateOf, stateFrom, kindFrom, floorOf, startOf, cpuOk, runOf, countOf}
 
 -- there and back
 
@@ -33,10 +32,10 @@ kind-from-of Finished = refl
 kind-from-of (Faulted n place) = refl
 
 pub of-from : (t : State) → stateOf (stateFrom t) ≡ t
-of-from t = λ i. record { words = t .words; registers = t .registers; kind = kind-of-from (t .kind) i }
+of-from t = rw (kind-of-from (t .kind))
 
 pub from-of : (st : SessionState) → stateFrom (stateOf st) ≡ st
-from-of st = λ i. record { words = st .words; cpu = record { kind = kind-from-of (st .cpu .kind) i; regs = st .cpu .regs } }
+from-of st = rw (kind-from-of (st .cpu .kind))
 
 -- a run keeps the region's length
 pub run-length : (k : ℕ) (code shared : List ℕ) (st : SessionState) → length (runOf k code shared st .words) ≡ length (st .words)
@@ -48,22 +47,19 @@ pub run-keeps : (k : ℕ) (code shared : List ℕ) (len : ℕ) (st : SessionStat
     → cpuOk code len (runOf k code shared st .cpu) ≡ true
 unfolding cpuOk runOf
 run-keeps k code shared len st j small l h =
-    let t = run code shared k (stateOf st) in
-    subst (λ (x : State). inRange code len (x .registers) (x .kind) ≡ true) (sym (of-from t))
-    (machine-keeps code shared len (loaded code j) k (stateOf st) l h)
+    rw (kind-of-from (run code shared k (stateOf st) .kind)) (machine-keeps code shared len (loaded code j) k (stateOf st) l h)
 
 -- two turns are one turn of both their steps
 pub run-add : (a b : ℕ) (code shared : List ℕ) (st : SessionState) → runOf (a + b) code shared st ≡ runOf b code shared (runOf a code shared st)
 unfolding runOf
 run-add a b code shared st =
-    ap stateFrom (machine-add code shared a b (stateOf st) ∙ ap (run code shared b) (sym (of-from (run code shared a (stateOf st)))))
+    rw (of-from (run code shared a (stateOf st)), machine-add code shared a b (stateOf st))
 
 -- and their counts add up
 pub count-add : (a b : ℕ) (code shared : List ℕ) (st : SessionState) → countOf (a + b) code shared st ≡ countOf a code shared st + countOf b code shared (runOf a code shared st)
 unfolding runOf countOf
 count-add a b code shared st =
-    machine-counts code shared a b (stateOf st)
-    ∙ ap (λ (x : State). stepsDone code shared a (stateOf st) + stepsDone code shared b x) (sym (of-from (run code shared a (stateOf st))))
+    rw (of-from (run code shared a (stateOf st))) (machine-counts code shared a b (stateOf st))
 
 pub run-none : (code shared : List ℕ) (st : SessionState) → runOf 0 code shared st ≡ st
 unfolding runOf

@@ -13,21 +13,29 @@ ghost use Prim.Native.Nat.{_-_, _≤_};
 ghost use lib.ListN.{length};
 ghost use Rattle.segment.specs.Judge.{judged};
 ghost use Rattle.basis.specs.Checks.{passed};
-ghost use Rattle.session.specs.Session.{noCpu, startOf, kindOk, cpuOk, RanTo};
+ghost use Rattle.pmachine.specs.State.{ready};
+ghost use Rattle.session.specs.Session.{cpuFrom, noCpu, startOf, kindOk, cpuOk, RanTo};
+
+// A session that is ready, at these registers: the one place of this crate that builds them.
+fn ready_at(sp: usize, m: usize, counter: usize, routine: usize) -> Cpu
+    ensures { λ r. ⌜ r ≡ cpuFrom (record { sp = sp; m = m; counter = counter; routine = routine }) ready ⌝ }
+{
+    Cpu {
+        kind: Kind::Ready,
+        regs: Regs {
+            sp,
+            m,
+            counter,
+            routine,
+        },
+    }
+}
 
 // The registers of a record that is not used.
 pub fn no_cpu() -> Cpu
     ensures { λ r. ⌜ r ≡ noCpu ⌝ }
 {
-    Cpu {
-        kind: Kind::Ready,
-        regs: Regs {
-            sp: 0,
-            m: 0,
-            counter: 0,
-            routine: 0,
-        },
-    }
+    ready_at(0, 0, 0, 0)
 }
 
 // The registers of a session that has just been opened, with len words.
@@ -35,15 +43,7 @@ pub fn start_cpu(code: &[u8], len: usize) -> Cpu
     ensures { λ r. ⌜ r ≡ startOf (now (code .entry)) len ⌝ }
 {
     let first = segment::routine_of(code, 1);
-    Cpu {
-        kind: Kind::Ready,
-        regs: Regs {
-            sp: len,
-            m: 1,
-            counter: first.start as usize,
-            routine: 1,
-        },
-    }
+    ready_at(len, 1, first.start as usize, 1)
 }
 
 fn kind_ok(code: &[u8], k: Kind) -> bool

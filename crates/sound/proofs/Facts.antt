@@ -1,15 +1,14 @@
 -- What a sound bench gives, as numbers: facts of the memory, of a slot, of one open session, of two; and what keeps it sound.
 -- Above: bench, isolation. Below: specs/Sound, Lists.
-use mathlib.Core.Path.{_≡_, refl, sym, ap, _∙_}
-use mathlib.Core.List.{List, [], _∷_}
-use mathlib.Core.Bool.{Bool, true, false, _&&_, _||_, not, false≢true}
-use Prim.Native.Nat.{ℕ, zero, suc, _+_, _-_, _≤_, _<_}
+use mathlib.Core.Path.{_≡_, refl, sym, _∙_}
+use mathlib.Core.List.{List}
+use mathlib.Core.Bool.{Bool, true, false, false≢true}
+use Prim.Native.Nat.{ℕ, _+_, _-_, _≤_, _<_}
 use native.Mathlib.Omega.{arith}
 use native.Mathlib.Decide.{decLt}
-use lib.Dec.{leb, eqb}
+use lib.Dec.{eqb}
 use lib.ListN.{length, getD, set, length-set, List·getD-eq-default}
 use borrow.Author.Tests.{leb-true, eqb-true, le-leb}
-use Rattle.basis.specs.Bools.{every, Holds}
 use Rattle.basis.proofs.Bools.{every-holds, holds-every, or-cases}
 use Rattle.sound.specs.Below.{judged, Cpu, cpuOk}
 use Rattle.sound.specs.Bench.{codeOf, slotAt, slotOf, noSlot, noSession, World, sessionAt, codeAt, at-cpu, at-sessions}
@@ -71,6 +70,21 @@ pub record Opened (store : List ℕ) (w : World) (se : Session) : Type 0 where
   pub checked : judged (codeOf store (slotOf (w .bench .slots) se)) ≡ passed
   pub cpu-ok : cpuOk (codeOf store (slotOf (w .bench .slots) se)) (se .len) (se .cpu) ≡ true
 
+-- an element that has what the one past the end has not lies in the list
+holds-in : {A : Type 0} (has : A → Bool) (l : List A) (i : ℕ) (d : A) → has d ≡ false → has (getD l i d) ≡ true → i < length l
+holds-in has l i d n u = go (decLt i (length l))
+  where
+    go : Dec (i < length l) → i < length l
+    go (yes h) = h
+    go (no h) = absurd (false≢true (sym n ∙ (rw (List·getD-eq-default l d {n = i} (omega arith)) at u)))
+
+apart-of : (a b : Session) → a .used ≡ true → b .used ≡ true → apart a b ≡ true → {P : Type 0}
+    → (a .base + a .len ≤ b .base → P)
+    → (b .base + b .len ≤ a .base → P)
+    → P
+unfolding apart
+apart-of a b ua ub h f k = or-cases _ _ (rw (ua, ub) at h) (λ e. f (leb-true _ _ e)) (λ e. k (leb-true _ _ e))
+
 module _ (store : List ℕ) (w : World) (g : Sound store w) where
   pub parts : Parts (w .bench) (w .mem) store
   parts = taken-apart (w .bench) (w .mem) store (g .sound)
@@ -87,37 +101,28 @@ module _ (store : List ℕ) (w : World) (g : Sound store w) where
   pub shared-in : w .bench .s ≤ length (w .mem)
   shared-in = rw long (kept .within)
 
-  below-by : (i : ℕ) → Dec (i < 16) → sessionAt w i .used ≡ true → i < 16
-  below-by i (yes h) u = h
-  below-by i (no h) u =
-      absurd (false≢true (sym (ap (λ (se : Session). se .used) (List·getD-eq-default (w .bench .sessions) noSession {n = i} (rw (g .sixteen) (omega arith)))) ∙ u))
-
   -- an open session is one of the sixteen
-  pub used-below : (i : ℕ) → sessionAt w i .used ≡ true → i < 16
-  used-below i u = below-by i (decLt i 16) u
-
   pub used-in : (i : ℕ) → sessionAt w i .used ≡ true → i < length (w .bench .sessions)
-  used-in i u = rw (g .sixteen) (used-below i u)
+  used-in i u = holds-in (λ (se : Session). se .used) (w .bench .sessions) i noSession refl u
 
-  slot-by : (j : ℕ) → Dec (j < length (w .bench .slots)) → slotAt (w .bench .slots) j .loaded ≡ true → judged (codeOf store (slotAt (w .bench .slots) j)) ≡ passed
-  unfolding slotOk
-  slot-by j (yes o) h =
-      let q = all-at (slotOk store) (w .bench .slots) j noSlot (parts .slots) o in
-      passed-is _ (every-holds _ (rw h at q) .1 .0)
-  slot-by j (no o) h =
-      absurd (false≢true (sym (ap (λ (sl : Slot). sl .loaded) (List·getD-eq-default (w .bench .slots) noSlot {n = j} (omega arith))) ∙ h))
+  passing : (i : ℕ) → sessionAt w i .used ≡ true → (p : Session → Bool) → all p (w .bench .sessions) ≡ true → p (sessionAt w i) ≡ true
+  passing i u p h = all-at p (w .bench .sessions) i noSession h (used-in i u)
+
+  pub used-below : (i : ℕ) → sessionAt w i .used ≡ true → i < 16
+  used-below i u = rw (g .sixteen) at (used-in i u)
 
   -- a loaded slot's bytes pass the checks
   pub slot-good : (j : ℕ) → slotAt (w .bench .slots) j .loaded ≡ true → judged (codeOf store (slotAt (w .bench .slots) j)) ≡ passed
-  slot-good j h = slot-by j (decLt j (length (w .bench .slots))) h
+  unfolding slotOk
+  slot-good j h =
+      let q = all-at (slotOk store) (w .bench .slots) j noSlot (parts .slots) (holds-in (λ (sl : Slot). sl .loaded) (w .bench .slots) j noSlot refl h) in
+      passed-is _ (every-holds _ (rw h at q) .1 .0)
 
   pub opened : (i : ℕ) → sessionAt w i .used ≡ true → Opened store w (sessionAt w i)
   unfolding sessionOk placed
   opened i u =
-      let h = all-at (sessionOk store (w .bench .slots)) (w .bench .sessions) i noSession (parts .sessions) (used-in i u) in
-      let k = all-at (placed (w .bench .n) (w .bench .s)) (w .bench .sessions) i noSession (parts .places) (used-in i u) in
-      let a = every-holds _ (rw u at h) in
-      let b = every-holds _ (rw u at k) in
+      let a = every-holds _ (rw u at (passing i u (sessionOk store (w .bench .slots)) (parts .sessions))) in
+      let b = every-holds _ (rw u at (passing i u (placed (w .bench .n) (w .bench .s)) (parts .places))) in
       record {
         slot-low = leb-true _ _ (a .0);
         loaded = a .1 .0;
@@ -129,44 +134,39 @@ module _ (store : List ℕ) (w : World) (g : Sound store w) where
         cpu-ok = a .1 .1 .1 .1 .0;
       }
 
-  apart-of : (a b : Session) → a .used ≡ true → b .used ≡ true → apart a b ≡ true → {P : Type 0} → (a .base + a .len ≤ b .base → P) → (b .base + b .len ≤ a .base → P) → P
-  unfolding apart
-  apart-of a b ua ub h {P} f k =
-      or-cases (leb (a .base + a .len) (b .base)) (leb (b .base + b .len) (a .base)) (rw (ua, ub) at h)
-      (λ e. f (leb-true _ _ e))
-      (λ e. k (leb-true _ _ e))
-
-  apart-by : (i j : ℕ) → Dec (i < j) → (j ≡ i → ⊥) → sessionAt w i .used ≡ true → sessionAt w j .used ≡ true → {P : Type 0} → (sessionAt w i .base + sessionAt w i .len ≤ sessionAt w j .base → P) → (sessionAt w j .base + sessionAt w j .len ≤ sessionAt w i .base → P) → P
-  apart-by i j (yes h) d ui uj {P} f k =
-      apart-of (sessionAt w i) (sessionAt w j) ui uj
-      (apart-at (w .bench .sessions) i j noSession (parts .lone) h (used-in j uj))
-      f k
-  apart-by i j (no h) d ui uj {P} f k =
-      apart-of (sessionAt w j) (sessionAt w i) uj ui
-      (apart-at (w .bench .sessions) j i noSession (parts .lone) (omega arith) (used-in i ui))
-      k f
-
   -- two open sessions' regions: the one ends by the other's start
-  pub apart-good : (i j : ℕ) → (j ≡ i → ⊥) → sessionAt w i .used ≡ true → sessionAt w j .used ≡ true → {P : Type 0} → (sessionAt w i .base + sessionAt w i .len ≤ sessionAt w j .base → P) → (sessionAt w j .base + sessionAt w j .len ≤ sessionAt w i .base → P) → P
-  apart-good i j d ui uj f k = apart-by i j (decLt i j) d ui uj f k
+  pub apart-good : (i j : ℕ) → (j ≡ i → ⊥) → sessionAt w i .used ≡ true → sessionAt w j .used ≡ true → {P : Type 0}
+      → (sessionAt w i .base + sessionAt w i .len ≤ sessionAt w j .base → P)
+      → (sessionAt w j .base + sessionAt w j .len ≤ sessionAt w i .base → P)
+      → P
+  apart-good i j d ui uj {P} f k = go (decLt i j)
+    where
+      go : Dec (i < j) → P
+      go (yes h) = apart-of (sessionAt w i) (sessionAt w j) ui uj (apart-at (w .bench .sessions) i j noSession (parts .lone) h (used-in j uj)) f k
+      go (no h) = apart-of (sessionAt w j) (sessionAt w i) uj ui (apart-at (w .bench .sessions) j i noSession (parts .lone) (omega arith) (used-in i ui)) k f
 
   -- other registers, in their ranges, in the record of an open session; and a memory of as many words
-  pub registers-good : (i : ℕ) → sessionAt w i .used ≡ true → (c : Cpu) (m : List ℕ) → length m ≡ length (w .mem) → cpuOk (codeAt store w i) (sessionAt w i .len) c ≡ true → Sound store (record { bench = at-sessions (w .bench) (set (w .bench .sessions) i (at-cpu (sessionAt w i) c)); mem = m })
+  pub registers-good : (i : ℕ) → sessionAt w i .used ≡ true → (c : Cpu) (m : List ℕ) → length m ≡ length (w .mem)
+      → cpuOk (codeAt store w i) (sessionAt w i .len) c ≡ true
+      → Sound store (record { bench = at-sessions (w .bench) (set (w .bench .sessions) i (at-cpu (sessionAt w i) c)); mem = m })
   unfolding sessionOk placed
   registers-good i u c m l h =
       let f = opened i u in
-      let old = all-at (sessionOk store (w .bench .slots)) (w .bench .sessions) i noSession (parts .sessions) (used-in i u) in
-      let new : sessionOk store (w .bench .slots) (at-cpu (sessionAt w i) c) ≡ true = rw u (holds-every _ (le-leb _ _ (f .slot-low), (f .loaded, (le-leb _ _ (f .least), (le-leb _ _ (f .most), (h, tt)))))) in
+      let l₀ = w .bench .sessions in
+      let se = at-cpu (sessionAt w i) c in
+      let ok = sessionOk store (w .bench .slots) in
+      let new : ok se ≡ true =
+      rw u (holds-every _ (le-leb _ _ (f .slot-low), (f .loaded, (le-leb _ _ (f .least), (le-leb _ _ (f .most), (h, tt)))))) in
       record {
-        sixteen = length-set (w .bench .sessions) i (at-cpu (sessionAt w i) c) ∙ g .sixteen;
+        sixteen = length-set l₀ i se ∙ g .sixteen;
         sound =
-            put-together (at-sessions (w .bench) (set (w .bench .sessions) i (at-cpu (sessionAt w i) c))) m store
+            put-together _ m store
             (record {
               limits = parts .limits;
               sized = rw l (parts .sized);
               slots = parts .slots;
-              places = all-set (placed (w .bench .n) (w .bench .s)) (w .bench .sessions) i noSession (at-cpu (sessionAt w i) c) refl ∙ parts .places;
-              lone = apart-set (w .bench .sessions) i noSession c ∙ parts .lone;
-              sessions = all-set (sessionOk store (w .bench .slots)) (w .bench .sessions) i noSession (at-cpu (sessionAt w i) c) (new ∙ sym old) ∙ parts .sessions;
+              places = all-set (placed (w .bench .n) (w .bench .s)) l₀ i noSession se refl ∙ parts .places;
+              lone = apart-set l₀ i noSession c ∙ parts .lone;
+              sessions = all-set ok l₀ i noSession se (new ∙ sym (passing i u ok (parts .sessions))) ∙ parts .sessions;
             });
       }

@@ -7,6 +7,7 @@ use Prim.Native.Nat.{ℕ, zero, suc, _<_}
 use native.Mathlib.Omega.{arith}
 use lib.ListN.{length, length-map, getD, set, List·getD-eq-default}
 use Rattle.basis.proofs.Bools.{and-fst, and-snd, and-both}
+pub use Rattle.pmachine.proofs.Rows.{either-way, decided}
 use Rattle.sound.specs.Below.{Cpu}
 use Rattle.sound.specs.Bench.{at-cpu}
 use Rattle.sound.specs.Sound.{all, apart, allApart}
@@ -28,7 +29,10 @@ module _ {A : Type 0} (p : A → Bool) where
   all-fails [] d h = absurd (false≢true (sym h))
   all-fails (x ∷ l) d h = go (p x) refl (λ e. all-fails l d e) h
     where
-      go : (b : Bool) → p x ≡ b → (all p l ≡ false → (i : ℕ) × (i < length l) × (p (getD l i d) ≡ false)) → (b && all p l) ≡ false → (i : ℕ) × (i < length (x ∷ l)) × (p (getD (x ∷ l) i d) ≡ false)
+      Missed : List A → Type 0
+      Missed k = (i : ℕ) × (i < length k) × (p (getD k i d) ≡ false)
+
+      go : (b : Bool) → p x ≡ b → (all p l ≡ false → Missed l) → (b && all p l) ≡ false → Missed (x ∷ l)
       go true e f g = let r = f g in (suc (r .0), omega (arith, r .1), r .2)
       go false e f g = (0, omega arith, e)
 
@@ -79,7 +83,9 @@ apart-set (x ∷ l) (suc i) d c =
     rw (apart-set l i d c, all-set (apart x) l i d (at-cpu (getD l i d) c) refl)
 
 -- one record replaced by one that is apart from every other
-pub apart-put : (l : List Session) (i : ℕ) (x d : Session) → allApart l ≡ true → ((j : ℕ) → j < length l → (j ≡ i → ⊥) → (apart x (getD l j d) ≡ true) × (apart (getD l j d) x ≡ true)) → allApart (set l i x) ≡ true
+pub apart-put : (l : List Session) (i : ℕ) (x d : Session) → allApart l ≡ true
+    → ((j : ℕ) → j < length l → (j ≡ i → ⊥) → (apart x (getD l j d) ≡ true) × (apart (getD l j d) x ≡ true))
+    → allApart (set l i x) ≡ true
 apart-put [] i x d h f = refl
 apart-put (y ∷ l) zero x d h f =
     and-both (all (apart x) l) (allApart l) (all-from (apart x) l d (λ k o. f (suc k) (omega arith) (omega arith) .0))

@@ -5,4 +5,4 @@ use Rattle.entry_load.proofs.range_ok.Tie as tie
 
 pub range-ok-spec : {M : Type 1} → statement M
 range-ok-spec =
-    tie.close (tie.spec (λ c κs. search needs) (λ c κs. search needs) (λ c. rw (c .both .ensures, c .before .ends-by .ensures)))
+    tie.close (tie.spec (search needs) (search needs) (λ c. rw (c .both .ensures, c .before .ends-by .ensures)))

@@ -5,4 +5,4 @@ use Rattle.entry_new.proofs.empty.Tie as tie
 
 pub empty-spec : {M : Type 1} → statement M
 empty-spec =
-    tie.close (tie.spec (λ c κs. search needs) (λ c κs. search needs) (λ c. rw (c .before .no-slot .ensures, c .no-session .ensures)))
+    tie.close (tie.spec (search needs) (search needs) (λ c. rw (c .before .no-slot .ensures, c .no-session .ensures)))

@@ -14,4 +14,4 @@ unfolding newOf
 returns-2 c = rw (sym (c .before .before .limits-ok .ensures) ∙ c .before .if1 .left, c .empty2 .ensures)
 
 pub new-bench-spec : {M : Type 1} → statement M
-new-bench-spec = tie.close (tie.spec (λ c κs. search needs) (λ c κs. search needs) returns (λ c κs. search needs) returns-2)
+new-bench-spec = tie.close (tie.spec (search needs) (search needs) returns (search needs) returns-2)

@@ -113,22 +113,22 @@ pub turn-spec : {M : Type 1} → statement M
 turn-spec =
     tie.close
     (tie.spec
-    (λ c κs. search needs)
-    (λ c κs. search needs)
-    (λ c. search needs)
-    (λ c κs. search needs)
-    (λ c. search needs)
+    (search needs)
+    (search needs)
+    (search needs)
+    (search needs)
+    (search needs)
     returns
-    (λ c. search needs)
-    (λ c κs. search needs)
-    (λ c. search needs)
+    (search needs)
+    (search needs)
+    (search needs)
     returns-2
-    (λ c κs. search needs)
-    (λ c κs. search needs)
+    (search needs)
+    (search needs)
     (λ c. omega (arith, going-at (few-at (c .before .before) .before) .session .inside))
     run-requires
-    (λ c κs. search needs)
+    (search needs)
     (λ c κs. going-at (few-at (c .before .before .before .before .before .before .before .before) .before) .low)
     steps-done-requires
-    (λ c. search needs)
+    (search needs)
     returns-3)

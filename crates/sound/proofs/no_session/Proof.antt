@@ -3,12 +3,5 @@ use borrow.Author.Needs.{needs}
 use Rattle.sound.proofs.no_session.Statement.{statement}
 use Rattle.sound.proofs.no_session.Tie as tie
 
-no-cpu-requires : tie.Need-no-cpu-requires
-no-cpu-requires c κs = search needs
-
-returns : tie.Need-returns
-returns c =
-    rw (c .no-cpu .ensures)
-
 pub no-session-spec : {M : Type 1} → statement M
-no-session-spec = tie.close (tie.spec no-cpu-requires returns)
+no-session-spec = tie.close (tie.spec (search needs) (λ c. rw (c .no-cpu .ensures)))

@@ -12,4 +12,4 @@ returns c =
 
 pub slot-at-spec : {M : Type 1} → statement M
 slot-at-spec =
-    tie.close (tie.spec (λ c κs. search needs) returns (λ c. search needs) (λ c. search needs) (λ c. search needs))
+    tie.close (tie.spec (search needs) returns (search needs) (search needs) (search needs))

@@ -25,4 +25,4 @@ returns-3 c =
     rw (sym (judged .sound .ensures) ∙ not-false _ (c .before .if1 .left), not-false named (c .if2 .left))
 
 pub guard-spec : {M : Type 1} → statement M
-guard-spec = tie.close (tie.spec (λ c κs. search needs) returns returns-2 returns-3)
+guard-spec = tie.close (tie.spec (search needs) returns returns-2 returns-3)

@@ -9,6 +9,6 @@ is-free-spec =
     tie.close
     (tie.spec
     (λ c. rw (lt-leb _ 15 (c .if1 .taken)))
-    (λ c. search needs)
-    (λ c. search needs)
+    (search needs)
+    (search needs)
     (λ c. rw (le-leb _ 15 (c .before .before .if1 .left))))

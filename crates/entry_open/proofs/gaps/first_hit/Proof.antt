@@ -1,6 +1,6 @@
 -- `entry_open::gaps::first_hit` meets its contract. After i records, what is left gives the first place still.
 use borrow.Author.Needs.{needs}
-use lib.ListN.{length, drop}
+use lib.ListN.{drop}
 use mathlib.Core.Bool.{not}
 use mathlib.Core.Path.{_≡_, sym, ap, _∙_}
 use native.Mathlib.Omega.{arith}
@@ -10,45 +10,20 @@ use Rattle.entry_open.proofs.Lowest.{first-found, first-next, first-non
 use Rattle.entry_open.proofs.gaps.first_hit.Statement.{statement}
 use Rattle.entry_open.proofs.gaps.first_hit.Tie as tie
 
-abbrev Inv-loop : tie.InvT-loop
-Inv-loop a len sessions i₀ i = (i ≤ 16) × (firstPlace (hits a len) sessions ≡ firstPlace (hits a len) (drop i sessions) + i)
-
-abbrev μ-loop : tie.MeasureT-loop
-μ-loop a len sessions i₀ i = 16 - i
-
-returns : tie.Need-returns Inv-loop μ-loop
-returns c =
-    let at-loop = c .before .before .before .before .loop in
-    let a = c .before .before .before .before .before .args in
-    let l : length (a .t1) ≡ 16 = search needs in
-    first-found _ (a .t1) (at-loop .i) (at-loop .inv .1) _ (omega arith) (sym (ap not (c .before .is-clear .ensures)) ∙ c .if1 .taken)
-
-loop-again : tie.Need-loop-again Inv-loop μ-loop
-loop-again c =
-    let at-loop = c .before .before .before .before .loop in
-    let a = c .before .before .before .before .before .args in
-    let l : length (a .t1) ≡ 16 = search needs in
-    (omega arith, first-next _ (a .t1) (at-loop .i) (at-loop .inv .1) _ (omega arith) (sym (ap not (c .before .is-clear .ensures)) ∙ c .if1 .left))
-
-returns-2 : tie.Need-returns-2 Inv-loop μ-loop
-returns-2 c =
-    let at-loop = c .before .loop in
-    let a = c .before .before .args in
-    let l : length (a .t1) ≡ 16 = search needs in
-    first-none _ (a .t1) (at-loop .i) (at-loop .inv .1) 16 (omega arith) (omega arith)
-
 pub first-hit-spec : {M : Type 1} → statement M
 first-hit-spec =
     tie.close
     (tie.spec
-    Inv-loop
-    μ-loop
+    (λ a len sessions i₀ i. (i ≤ 16) × (firstPlace (hits a len) sessions ≡ firstPlace (hits a len) (drop i sessions) + i))
+    (λ a len sessions i₀ i. 16 - i)
     (λ c. (omega arith, omega arith))
-    (λ c. omega arith)
-    (λ c. omega arith)
-    (λ c κs. tt)
-    returns
-    (λ c. omega arith)
-    (λ c. omega arith)
-    loop-again
-    returns-2)
+    (search needs)
+    (search needs)
+    (search needs)
+    (λ c. let at = c .before .before .before .before in
+        first-found _ _ (at .loop .i) (search needs) (at .loop .inv .1) _ (omega arith) (sym (ap not (c .before .is-clear .ensures)) ∙ c .if1 .taken))
+    (search needs)
+    (search needs)
+    (λ c. let at = c .before .before .before .before in
+        (omega arith, first-next _ _ (at .loop .i) (search needs) (at .loop .inv .1) _ (omega arith) (sym (ap not (c .before .is-clear .ensures)) ∙ c .if1 .left)))
+    (λ c. first-none _ _ (c .before .loop .i) (search needs) (c .before .loop .inv .1) (omega arith)))

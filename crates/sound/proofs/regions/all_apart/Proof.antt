@@ -1,74 +1,33 @@
--- `sound::regions::all_apart` meets its contract. What it cites of this crate's laws is in proofs/Loops.
-use Rattle.sound.specs.Sound.{allApart}
-use lib.ListN.{length, drop}
+-- `sound::regions::all_apart` meets its contract: the loop has tested the elements below i, and none of them failed.
+use Rattle.sound.specs.Sound.{all, apart, allApart}
+use lib.ListN.{drop}
 use Prim.Native.Nat.{_≤_, _-_}
 use Rattle.sound.proofs.Loops as laws
 use borrow.Author.Needs.{needs}
-use borrow.Author.Tests.{not-true, not-false}
-use mathlib.Core.Path.{_≡_, refl, sym, _∙_}
+use mathlib.Core.Path.{_≡_, refl}
 use native.Mathlib.Omega.{arith}
 use Rattle.sound.proofs.regions.all_apart.Statement.{statement}
 use Rattle.sound.proofs.regions.all_apart.Tie as tie
-
-abbrev Inv-loop : tie.InvT-loop
-Inv-loop sessions i₀ i = (i ≤ 16) × (allApart sessions ≡ allApart (drop i sessions))
-
-abbrev μ-loop : tie.MeasureT-loop
-μ-loop sessions i₀ i = 16 - i
-
-loop-holds : tie.Need-loop-holds Inv-loop μ-loop
-loop-holds c =
-    (omega arith, refl)
-
-mul-se : tie.Need-mul-se Inv-loop μ-loop
-mul-se c =
-    omega arith
-
-array-copy-out-se : tie.Need-array-copy-out-se Inv-loop μ-loop
-array-copy-out-se c =
-    omega arith
-
-add-apart-from : tie.Need-add-apart-from Inv-loop μ-loop
-add-apart-from c =
-    omega arith
-
-apart-from-requires : tie.Need-apart-from-requires Inv-loop μ-loop
-apart-from-requires c κs =
-    omega arith
-
-returns : tie.Need-returns Inv-loop μ-loop
-returns c =
-    let a = c .before .before .before .before .before .args in let l : length (a .t1) ≡ 16 = search needs in sym (c .before .before .before .before .loop .inv .1 ∙ laws.apart-falls (a .t1) (c .before .before .before .before .loop .i) _ (omega arith) (sym (c .before .apart-from .ensures) ∙ not-true (c .before .apart-from .result) (c .if1 .taken)))
-
-add-i : tie.Need-add-i Inv-loop μ-loop
-add-i c =
-    omega arith
-
-loop-less : tie.Need-loop-less Inv-loop μ-loop
-loop-less c =
-    omega arith
-
-loop-again : tie.Need-loop-again Inv-loop μ-loop
-loop-again c =
-    let a = c .before .before .before .before .before .args in let l : length (a .t1) ≡ 16 = search needs in (omega arith, c .before .before .before .before .loop .inv .1 ∙ laws.apart-on (a .t1) (c .before .before .before .before .loop .i) _ (omega arith) (sym (c .before .apart-from .ensures) ∙ not-false (c .before .apart-from .result) (c .if1 .left)))
-
-returns-2 : tie.Need-returns-2 Inv-loop μ-loop
-returns-2 c =
-    let a = c .before .before .args in let l : length (a .t1) ≡ 16 = search needs in sym (c .before .loop .inv .1 ∙ laws.apart-end (a .t1) (c .before .loop .i) (omega arith))
 
 pub all-apart-spec : {M : Type 1} → statement M
 all-apart-spec =
     tie.close
     (tie.spec
-    Inv-loop
-    μ-loop
-    loop-holds
-    mul-se
-    array-copy-out-se
-    add-apart-from
-    apart-from-requires
-    returns
-    add-i
-    loop-less
-    loop-again
-    returns-2)
+    (λ sessions i₀ i. (i ≤ 16) × (allApart sessions ≡ allApart (drop i sessions)))
+    (λ sessions i₀ i. 16 - i)
+    (λ c. (omega arith, refl))
+    (search needs)
+    (search needs)
+    (search needs)
+    (search needs)
+    (λ c. let at = c .before .before .before .before in
+    laws.falls allApart (λ x l. all (apart x) l) (λ x l. refl) _ (at .loop .i) (search needs) (at .loop .inv .1) _ (omega arith)
+    (c .before .apart-from .ensures) (c .if1 .taken))
+    (search needs)
+    (search needs)
+    (λ c. let at = c .before .before .before .before in (
+      omega arith,
+      laws.goes allApart (λ x l. all (apart x) l) (λ x l. refl) _ (at .loop .i) (search needs) (at .loop .inv .1) _ (omega arith)
+          (c .before .apart-from .ensures) (c .if1 .left),
+    ))
+    (λ c. laws.ends allApart _ (c .before .loop .i) (search needs) (c .before .loop .inv .1) refl (omega arith)))

@@ -10,24 +10,13 @@ unfolding slotOk every
 returns c =
     rw (c .if1 .taken)
 
-ends-by-requires : tie.Need-ends-by-requires
-ends-by-requires c κs = search needs
-
-code-of-requires : tie.Need-code-of-requires
-code-of-requires c κs = search needs
-
-accepts-requires : tie.Need-accepts-requires
-accepts-requires c κs = search needs
-
-both-requires : tie.Need-both-requires
-both-requires c κs = search needs
-
 returns-2 : tie.Need-returns-2
 unfolding slotOk every
 returns-2 c =
-    simp (c .before .before .before .before .if1 .left, c .both .ensures, c .before .before .before .ends-by .ensures, c .before .accepts .ensures, c .before .before .code-of .ensures)
+    let inside = c .before .before .before in
+    rw (inside .before .if1 .left, c .both .ensures, inside .ends-by .ensures, c .before .accepts .ensures, c .before .before .code-of .ensures)
 
 pub slot-ok-spec : {M : Type 1} → statement M
 slot-ok-spec =
     tie.close
-    (tie.spec returns ends-by-requires code-of-requires accepts-requires both-requires returns-2)
+    (tie.spec returns (search needs) (search needs) (search needs) (search needs) returns-2)
