@@ -51,14 +51,17 @@ void fresh(void) {
 
 static const uint8_t STUB[] = { 150, 0 };                   /* RPU 0 */
 
-/* sum: 1000 + 999 + .. over two locals, for ever. */
-static void sum(void) {
+/* sum: 1000 + 999 + .. over two locals, for ever; here with n - 1 routines that do nothing. */
+static void sum_of(uint32_t n) {
     static const uint8_t b[] = {
         129, 0xe8, 3, 105, 0, 104,                          /* LDCI 1000, SSTL 2; SLDC 0, SSTL 1 */
         32, 33, 162, 104, 33, 1, 163, 105,                  /* SLDL 1, SLDL 2, ADI, SSTL 1; SLDL 2, SLDC 1, SBI, SSTL 2 */
         33, 0, 178, 212, 256 - 13, 138, 256 - 21 };         /* SLDL 2, SLDC 0, LEQI, FJP to the second line; UJP to the first */
-    ROUTINE(b, 4); ROUTINE(STUB, 0); session(4);
+    ROUTINE(b, 4);
+    while (routines < n) ROUTINE(STUB, 0);
+    session(4);
 }
+static void sum(void) { sum_of(2); }
 
 /* fib: the recursive function of 15, for ever. */
 static void fib(void) {
@@ -149,4 +152,8 @@ void program(int p) {
     static void (*const builds[PROGRAMS])(void) = { sum, fib, scan, mixed, records, choice };
     begin();
     builds[p]();
+}
+void many(uint32_t n) {
+    begin();
+    sum_of(n);
 }
