@@ -1,5 +1,6 @@
-// What a line with a capital letter asks of the proved entry points.
-// Above it: the world. Below it: segments, turning, the bench; and how an answer is told.
+// What a line with a capital letter asks of the proved entry points; docs/CASES.md has the format.
+// Above it: `cases_entries`, which reads the lines. Below it: segments, their turning and the bench, each asked by its public entry points; and
+// `cases_lines`, which tells an answer. An output longer than the longest is the longest.
 use bench::Answer;
 use bench::Out;
 use cases_lines::answers;
