@@ -1,6 +1,5 @@
 // The world that the lines are about: a bench, and how many words of memory and bytes of store are lent.
 // Above it: the input, which has the lines. Below it: what a line sets up, and what it asks.
-use crate::requests;
 use cases_lines::numbers::letter;
 use cases_lines::numbers::numbers;
 use cases_lines::setup;
@@ -86,10 +85,10 @@ fn follow(b: Bench, memory: &mut [u16], store: &mut [u8], what: u8, text: &[u8])
         }
         b'z' | b'n' | b's' | b'e' | b'r' => setup::bench(b, what, numbers(text)),
         b'J' | b'V' | b'Q' => {
-            requests::look(b, memory, store, what, numbers(text));
+            cases_requests::look(b, memory, store, what, numbers(text));
             b
         }
-        b'N' | b'L' | b'O' | b'T' | b'X' => requests::enter(b, memory, store, what, numbers(text)),
+        b'N' | b'L' | b'O' | b'T' | b'X' => cases_requests::enter(b, memory, store, what, numbers(text)),
         _ => b,
     }
 }

@@ -1,6 +1,9 @@
 // The numbers of a line, in hexadecimal digits.
 // Above it: what a line sets up or asks. Below it: nothing.
 
+// How many numbers of a line are read: the most that a line of docs/CASES.md can have, but for a list of words.
+pub const NUMBERS: usize = 16;
+
 // What a digit stands for, and 16 for a byte that is none.
 fn digit(b: u8) -> u8 {
     match b {
@@ -47,31 +50,31 @@ pub fn letter(line: &[u8]) -> u8 {
     0
 }
 
-// How many blanks were passed; past nine they are not counted.
+// How many blanks were passed; past those before the last number that is read they are not counted.
 fn passed(blanks: usize, b: u8) -> usize {
     if b != b' ' {
         return blanks;
     }
-    if blanks > 8 {
+    if blanks > NUMBERS {
         return blanks;
     }
     blanks + 1
 }
 
 // A byte of the number that stands after so many blanks.
-fn add_digit(out: &mut [u64; 8], blanks: usize, b: u8) {
+fn add_digit(out: &mut [u64; NUMBERS], blanks: usize, b: u8) {
     if blanks == 0 {
         return;
     }
     let k = blanks - 1;
-    if k < 8 {
+    if k < NUMBERS {
         out[k] = longer(out[k], b);
     }
 }
 
-// The first eight numbers: number k, counted from 0, stands after k + 1 blanks.
-pub fn numbers(line: &[u8]) -> [u64; 8] {
-    let mut out = [0u64; 8];
+// The first numbers: number k, counted from 0, stands after k + 1 blanks.
+pub fn numbers(line: &[u8]) -> [u64; NUMBERS] {
+    let mut out = [0u64; NUMBERS];
     let mut blanks: usize = 0;
     let mut i = 0;
     while i < line.len() {

@@ -1,6 +1,7 @@
 // What a line with a small letter sets up: words, bytes, and the parts of the bench. Any numbers may be set, sound or not.
 // Above it: the world. Below it: the numbers of a line, and the types of the bench.
 use crate::numbers;
+use crate::numbers::NUMBERS;
 use machine::Cpu;
 use machine::Kind;
 use plan::Regs;
@@ -51,7 +52,7 @@ pub fn no_bench() -> Bench {
 }
 
 // The bench after a line that sets a part of it.
-pub fn bench(b: Bench, what: u8, v: [u64; 8]) -> Bench {
+pub fn bench(b: Bench, what: u8, v: [u64; NUMBERS]) -> Bench {
     match what {
         b'n' => with_sizes(b, v[0], v[1]),
         b's' => with_slot(b, v[0], slot(v[1], v[2], v[3])),
@@ -105,7 +106,7 @@ fn with_session(b: Bench, k: u64, se: Session) -> Bench {
     out
 }
 
-fn region(se: Session, v: [u64; 8]) -> Session {
+fn region(se: Session, v: [u64; NUMBERS]) -> Session {
     let mut out = se;
     out.used = v[1] != 0;
     out.slot = v[2] as usize;
@@ -114,7 +115,7 @@ fn region(se: Session, v: [u64; 8]) -> Session {
     out
 }
 
-fn registers(se: Session, v: [u64; 8]) -> Session {
+fn registers(se: Session, v: [u64; NUMBERS]) -> Session {
     let cpu = Cpu {
         kind: kind(v[5], v[6], v[7]),
         regs: Regs {

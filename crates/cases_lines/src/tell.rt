@@ -45,9 +45,9 @@ fn put_line(out: &mut [u8], letter: u8, numbers: &[u64], digests: &[u64]) -> usi
     put(out, c, b'\n')
 }
 
-// A line has at most nine numbers, of 16 digits each, so 256 bytes hold it.
+// A line has at most 16 numbers and two digests, of 16 digits each, so 320 bytes hold it.
 pub fn tell(letter: u8, numbers: &[u64], digests: &[u64]) {
-    let mut out = [0u8; 256];
+    let mut out = [0u8; 320];
     let n = put_line(&mut out, letter, numbers, digests);
     io::write_all(STDOUT_FILENO, text::front(&out, n));
 }

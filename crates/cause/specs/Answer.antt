@@ -1,19 +1,11 @@
--- The code's answers in the words of the definition of a step: where a jump leads, whose record, and where static links lead.
+-- The code's answers in the words of the definition of a step: whose record, and where static links lead.
 -- Above: contracts of flow; below: Meaning and Step of `pmachine`.
-use Prim.Native.Nat.{ℕ}
 use Rattle.pmachine.specs.Meaning.{Whose as Whose′, globals, up}
 use Rattle.pmachine.specs.Step.{Link, reaches, broken}
-use Rattle.cause.specs.declared.flow.Target.{Target}
-use Rattle.cause.specs.declared.flow.Target.the-variants.{Byte, Before}
 use Rattle.cause.specs.declared.flow.Reached.{Reached}
 use Rattle.cause.specs.declared.flow.Reached.the-variants.{Record, Bad}
 use Rattle.cause.specs.declared.meaning.Whose.{Whose}
 use Rattle.cause.specs.declared.meaning.Whose.the-variants.{Globals, Up}
-
--- a target below 0 counts as 0
-abbrev pub byteOf : Target → ℕ
-byteOf (Byte t) = t
-byteOf (Before k) = 0
 
 abbrev pub whoseOf : Whose → Whose′
 whoseOf Globals = globals

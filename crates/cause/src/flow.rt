@@ -1,5 +1,5 @@
 // Checks on jumps, static links, calls and returns. Faults 7, 8 and 9.
-// Above it: `judged`, and places for the record of an offset. Below it: numbers.
+// Above it: `judged`, and places for the record of an offset. Below it: numbers, `instruction` for a jump's target, `plan` for the walk of links.
 use crate::meaning::Whose;
 use crate::numbers::Numbers;
 use crate::numbers::is_outside;
@@ -8,39 +8,23 @@ use crate::numbers::narrow;
 use crate::numbers::word;
 use crate::why::Flow;
 use crate::why::Why;
+use instruction::Target;
+use plan::Link;
 ghost use mathlib.Core.Path.{_≡_};
-ghost use Rattle.pmachine.specs.Step.{follow, target, reached};
-ghost use Rattle.cause.specs.Answer.{byteOf, linkOf, whoseOf};
-
-// The byte that a jump leads to; or how far below 0 it leads.
-pub enum Target {
-    Byte(usize),
-    Before(usize),
-}
+ghost use Prim.Native.Nat.{_<_};
+ghost use lib.ListN.{length};
+ghost use Rattle.pmachine.specs.Step.{broken, follow, reached};
+ghost use Rattle.cause.specs.Answer.{linkOf, whoseOf};
 
 // The record that links lead to; or a bad link: of how many, how many were left with it, the word where it stands, what it holds.
 pub enum Reached {
-    Record(u16),
+    Record(usize),
     Bad(u16, u16, u16, u16),
-}
-
-// Jumps count from the byte after the instruction, by a distance in two's complement.
-fn landing(next: u16, d: u16) -> Target
-    ensures { λ r. ⌜ byteOf r ≡ target next d ⌝ }
-{
-    let t = next as usize + d as usize;
-    if d < 32768 {
-        return Target::Byte(t);
-    }
-    if t < 65536 {
-        return Target::Before(65536 - t);
-    }
-    Target::Byte(t - 65536)
 }
 
 // 7: the target lies in the code.
 pub fn jump(n: Numbers, next: usize, d: u16) -> Why {
-    let l = landing(narrow(next), d);
+    let l = instruction::leads_to(narrow(next), d);
     match l {
         Target::Byte(t) => {
             if is_outside(t, 22, less(n.code as usize, 1)) {
@@ -61,21 +45,37 @@ pub fn branch(region: &[u16], n: Numbers, want: u16, next: usize, d: u16) -> Why
     Why::Holds
 }
 
-// The record that d static links lead to, the last d of `of`: one link, and then d - 1 more.
-fn walk(region: &[u16], m: u16, d: u16, of: u16) -> Reached
+// The bad link among d, of which at least one is: the links before it lead to the record where it stands, so that is looked for from the last.
+fn bad_link(region: &[u16], m: usize, d: u16) -> Reached
+    requires { ⌜ m < length (now region) ⌝ }
+    ensures { λ r. ⌜ linkOf r ≡ broken ⌝ }
+{
+    let mut before = d;
+    while 0 < before {
+        before -= 1;
+        let l = plan::walk(region, m, before);
+        if let Link::Record(at) = l {
+            return Reached::Bad(d, d - before, narrow(at), word(region, at));
+        }
+    }
+    Reached::Bad(d, d, narrow(m), word(region, m))
+}
+
+// The record that d static links lead to, as the machine walks them. Past the region, where no session's M is, stands no link.
+fn up(region: &[u16], m: usize, d: u16) -> Reached
     ensures { λ r. ⌜ linkOf r ≡ follow (now (region .entry)) m d ⌝ }
 {
-    if d == 0 {
-        return Reached::Record(m);
+    if region.len() <= m {
+        if d == 0 {
+            return Reached::Record(m);
+        }
+        return Reached::Bad(d, d, narrow(m), 0);
     }
-    let link = word(region, m as usize);
-    if link < 1 {
-        return Reached::Bad(of, d, m, link);
+    let l = plan::walk(region, m, d);
+    match l {
+        Link::Record(at) => Reached::Record(at),
+        Link::Broken => bad_link(region, m, d),
     }
-    if region.len() < link as usize + 5 {
-        return Reached::Bad(of, d, m, link);
-    }
-    walk(region, link, d - 1, of)
 }
 
 // Globals are the record at 1.
@@ -84,7 +84,7 @@ pub fn record_of(region: &[u16], m: u16, whose: Whose) -> Reached
 {
     match whose {
         Whose::Globals => Reached::Record(1),
-        Whose::Up(d) => walk(region, m, d, d),
+        Whose::Up(d) => up(region, m as usize, d),
     }
 }
 

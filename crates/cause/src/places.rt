@@ -4,6 +4,7 @@ use crate::flow;
 use crate::flow::Reached;
 use crate::meaning::Whose;
 use crate::numbers::Numbers;
+use crate::numbers::narrow;
 use crate::numbers::word;
 use crate::why::Address;
 use crate::why::Flow;
@@ -25,7 +26,7 @@ const LAST: usize = 65535;
 pub fn offset(region: &[u16], n: Numbers, whose: Whose, x: u16) -> Why {
     let r = flow::record_of(region, n.m, whose);
     match r {
-        Reached::Record(m) => local(n, m, x),
+        Reached::Record(m) => local(n, narrow(m), x),
         Reached::Bad(of, left, at, value) => Why::Flow(Flow::Link(of, left, at, value)),
     }
 }

@@ -2,3 +2,4 @@
 pub mod Standing
 pub mod Decodes
 pub mod Parts
+pub mod Targets

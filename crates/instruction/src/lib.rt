@@ -1,5 +1,9 @@
 // What stands at a byte of the code: the first byte, whether it is carried, and its operands as far as they are there.
 // Above: listings, and what is told of a fault. Below: the table of first bytes in `opcodes`, and the reader, which fetches operands.
+mod jump;
+
+pub use jump::Target;
+pub use jump::leads_to;
 use operand::Operand;
 ghost use mathlib.Core.Path.{_≡_};
 ghost use Prim.Native.Nat.{_<_};

@@ -1,6 +1,7 @@
 // The operands in a phrase, each as a person reads it.
 // Above it: what an instruction does. Below it: the header numbers of `segment`, and how the console speaks.
 use crate::places;
+use instruction::Target;
 
 // What is asked of an entry of the table: its mnemonic or its phrase; the operands in order, and the byte after the instruction.
 pub struct Operands {
@@ -40,15 +41,22 @@ pub fn words(n: u16) {
 
 // Where a jump leads, and whether that is out of the code. No segment reaches past byte 65534, so it is always told.
 pub fn jump(len: usize, next: usize, distance: u16) {
-    if next <= 65536 {
-        let t = places::landing(next, distance);
-        pond_say::number(t as u64);
-        outside(len, t);
+    if next <= 65535 {
+        let t = instruction::leads_to(next as u16, distance);
+        match t {
+            Target::Byte(at) => {
+                lands(len, at);
+            }
+            Target::Before(_) => {
+                lands(len, 0);
+            }
+        }
     }
 }
 
 // A target below byte 0 counts as 0.
-fn outside(len: usize, t: usize) {
+fn lands(len: usize, t: usize) {
+    pond_say::number(t as u64);
     if t == 0 {
         pond_say::text(b" or below");
     }

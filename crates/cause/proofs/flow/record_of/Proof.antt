@@ -10,7 +10,7 @@ returns c = simp (c .enum-told .given .1)
 
 returns-2 : tie.Need-returns-2
 unfolding reached
-returns-2 c = simp (c .before .before .whose .given .1, ← c .walk .ensures)
+returns-2 c = simp (c .before .before .whose .given .1, ← c .up .ensures)
 
 pub record-of-spec : {M : Type 1} → statement M
 record-of-spec =

@@ -4,15 +4,6 @@ use borrow.Author.Needs.{needs}
 use Rattle.cause.proofs.places.local.Statement.{statement}
 use Rattle.cause.proofs.places.local.Tie as tie
 
-add-at : tie.Need-add-at
-add-at c = search needs
-
-add-at-2 : tie.Need-add-at-2
-add-at-2 c = search needs
-
-cast-if1 : tie.Need-cast-if1
-cast-if1 c = search needs
-
 returns : tie.Need-returns
 returns c = simp (lt-ltb _ _ (c .if1 .taken))
 
@@ -20,4 +11,4 @@ returns-2 : tie.Need-returns-2
 returns-2 c = simp (le-ltb _ _ (c .if1 .left))
 
 pub local-spec : {M : Type 1} → statement M
-local-spec = tie.close (tie.spec add-at add-at-2 cast-if1 returns returns-2)
+local-spec = tie.close (tie.spec (λ c. search needs) (λ c. search needs) (λ c. search needs) returns returns-2)

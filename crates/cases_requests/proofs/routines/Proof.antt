@@ -1,8 +1,8 @@
--- `requests::routines` is safe and ends: it passes each routine once. Assumes nothing.
+-- `routines` is safe and ends: it passes each routine once. Assumes nothing.
 use Prim.Native.Nat.{_-_, _≤_}
 use borrow.Author.Needs.{needs}
-use Rattle.cases_entries.proofs.requests.routines.Statement.{statement}
-use Rattle.cases_entries.proofs.requests.routines.Tie as tie
+use Rattle.cases_requests.proofs.routines.Statement.{statement}
+use Rattle.cases_requests.proofs.routines.Tie as tie
 
 abbrev Inv-loop : tie.InvT-loop
 Inv-loop store n d₀ k₀ d k = k ≤ n

@@ -1,9 +1,11 @@
-// What a line with a capital letter asks of the proved entry points.
-// Above it: the world. Below it: segments, turning, the bench; and how an answer is told.
+// What a line with a capital letter asks of the proved entry points; docs/CASES.md has the format.
+// Above it: `cases_entries`, which reads the lines. Below it: segments, their turning and the bench, each asked by its public entry points; and
+// `cases_lines`, which tells an answer. An output longer than the longest is the longest.
 use bench::Answer;
 use bench::Out;
 use cases_lines::answers;
 use cases_lines::digest;
+use cases_lines::numbers::NUMBERS;
 use cases_lines::tell::tell;
 use segment::Segment;
 use segment::Verdict;
@@ -13,7 +15,7 @@ use sound::Bench;
 const OUTPUT: usize = 131072;
 
 // A question that changes nothing.
-pub fn look(b: Bench, memory: &[u16], store: &[u8], what: u8, v: [u64; 8]) {
+pub fn look(b: Bench, memory: &[u16], store: &[u8], what: u8, v: [u64; NUMBERS]) {
     match what {
         b'J' => {
             judge(store);
@@ -120,7 +122,7 @@ fn is_sound(b: Bench, memory: &[u16], store: &[u8]) {
 }
 
 // An entry of the bench: asked, answered, and the bench after it.
-pub fn enter(b: Bench, memory: &mut [u16], store: &[u8], what: u8, v: [u64; 8]) -> Bench {
+pub fn enter(b: Bench, memory: &mut [u16], store: &[u8], what: u8, v: [u64; NUMBERS]) -> Bench {
     let out = entered(b, memory, store, what, v);
     let after = out.bench;
     let answer = out.answer;
@@ -128,7 +130,7 @@ pub fn enter(b: Bench, memory: &mut [u16], store: &[u8], what: u8, v: [u64; 8]) 
     after
 }
 
-fn entered(b: Bench, memory: &mut [u16], store: &[u8], what: u8, v: [u64; 8]) -> Out {
+fn entered(b: Bench, memory: &mut [u16], store: &[u8], what: u8, v: [u64; NUMBERS]) -> Out {
     let i = v[0] as usize;
     let n = v[1] as usize;
     match what {

@@ -1,0 +1,59 @@
+/* Times the entries of a bench, on a small one and on full ones: ns a request, the least of many runs. speed/entries builds and runs it.
+   A run builds a bench and asks it the same request ROUNDS times; the time of a run that only builds is taken off. A new entry is one row of
+   REQUEST here and one arm of `ask` in crate export_bench, which has the numbers of the requests. */
+#include "programs.h"
+#include <stdio.h>
+#include <time.h>
+
+/* The proved entries: a slice is a pointer and then a length. It answers how many requests were not refused. */
+extern uint64_t bench_asked(uint16_t *memory, uint64_t words, const uint8_t *store, uint64_t bytes, uint64_t slots, uint64_t sessions,
+    uint64_t len, uint64_t what, uint64_t n, uint64_t rounds);
+
+enum { LEN = 1000, WORDS = 16 * LEN, ROUNDS = 200, RUNS = 40 };
+/* What is asked, with its number and its operand; `fills` says which the request needs one of: a slot or a session. */
+enum { NOTHING, SLOT, SESSION };
+static const struct { const char *name; uint64_t what, n; int fills; } REQUEST[] = {
+    { "turn, k = 0", 3, 0, NOTHING }, { "turn, k = 1", 3, 1, NOTHING }, { "turn, k = 100", 3, 100, NOTHING },
+    { "turn, k = 65535", 3, 65535, NOTHING }, { "open", 0, LEN, SESSION }, { "close", 1, 0, NOTHING }, { "load", 2, 0, SLOT },
+};
+/* The benches: loaded slots, routines of each one's segment, open sessions. */
+static const struct { uint32_t slots, routines, sessions; } BENCH[] = { { 1, 10, 1 }, { 16, 20, 16 }, { 16, 100, 16 }, { 16, 255, 16 } };
+enum { REQUESTS = sizeof REQUEST / sizeof *REQUEST, BENCHES = sizeof BENCH / sizeof *BENCH };
+
+static uint16_t memory[WORDS];
+static double now(void) { struct timespec t; clock_gettime(CLOCK_MONOTONIC, &t); return t.tv_sec * 1e9 + t.tv_nsec; }
+
+/* The least time of a run, and how many requests of the last were done. */
+static double run(int r, int b, uint64_t rounds, uint64_t *done) {
+    uint32_t slots = BENCH[b].slots, sessions = BENCH[b].sessions;
+    if (slots == 16 && REQUEST[r].fills == SLOT) slots--;
+    if (sessions == 16 && REQUEST[r].fills == SESSION) sessions--;
+    double best = 1e18;
+    for (int i = 0; i < RUNS; i++) {
+        double start = now();
+        *done = bench_asked(memory, WORDS, seg, w2, slots, sessions, LEN, REQUEST[r].what, REQUEST[r].n, rounds);
+        double ns = now() - start;
+        if (ns < best) best = ns;
+    }
+    return best;
+}
+
+int main(void) {
+    int good = 1;
+    printf("%-18s", "ns a request");
+    for (int b = 0; b < BENCHES; b++) printf("  %2u slots of %3u, %2u sessions", BENCH[b].slots, BENCH[b].routines, BENCH[b].sessions);
+    puts("");
+    for (int r = 0; r < REQUESTS; r++) {
+        uint64_t rounds = REQUEST[r].n > 1000 && REQUEST[r].what == 3 ? 4 : ROUNDS;
+        printf("  %-16s", REQUEST[r].name);
+        for (int b = 0; b < BENCHES; b++) {
+            uint64_t built, done;
+            many(BENCH[b].routines);
+            double build = run(r, b, 0, &built), all = run(r, b, rounds, &done);
+            if (done == rounds) printf("  %28.0f", (all - build) / rounds); else printf("  %28s", "refused");
+            good &= done == rounds;
+        }
+        puts("");
+    }
+    return !good;
+}
