@@ -53,7 +53,7 @@ fn bad_link(region: &[u16], m: usize, d: u16) -> Reached
     let mut before = d;
     while 0 < before {
         before -= 1;
-        let l = plan::walk(region, m, before);
+        let l = plan::reach(region, m, before);
         if let Link::Record(at) = l {
             return Reached::Bad(d, d - before, narrow(at), word(region, at));
         }
@@ -71,7 +71,7 @@ fn up(region: &[u16], m: usize, d: u16) -> Reached
         }
         return Reached::Bad(d, d, narrow(m), 0);
     }
-    let l = plan::walk(region, m, d);
+    let l = plan::reach(region, m, d);
     match l {
         Link::Record(at) => Reached::Record(at),
         Link::Broken => bad_link(region, m, d),

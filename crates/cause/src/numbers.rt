@@ -27,7 +27,7 @@ pub struct Numbers {
 
 pub fn numbers_of(seg: &[u8], len: usize, shared: usize, regs: Regs) -> Numbers {
     let head = segment::head(seg);
-    let floor = 6 + segment::routine_of(seg, 1).datasize as u32;
+    let floor = segment::floor(seg) as u32;
     Numbers {
         kept: is_kept(seg.len(), head.count, floor, len, shared, regs),
         code: narrow(seg.len()),

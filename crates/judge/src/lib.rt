@@ -22,7 +22,7 @@ use plan::load;
 use plan::one_word;
 use plan::pool_offset;
 use plan::push;
-use plan::record;
+use plan::reach;
 use plan::store;
 use plan::store_at;
 use plan::swap;
@@ -137,7 +137,7 @@ fn act(
             if DEEPEST < d {
                 return Planned::Bad(2);
             }
-            let Link::Record(rec) = record(region, r.m, d) else {
+            let Link::Record(rec) = reach(region, r.m, d) else {
                 return Planned::Bad(9);
             };
             address(region, facts.floor, r, rec, a, next)
@@ -157,7 +157,7 @@ fn act(
             if DEEPEST < d {
                 return Planned::Bad(2);
             }
-            let Link::Record(rec) = record(region, r.m, d) else {
+            let Link::Record(rec) = reach(region, r.m, d) else {
                 return Planned::Bad(9);
             };
             load(region, facts.floor, r, rec, a, next)
@@ -211,7 +211,7 @@ fn act(
             if DEEPEST < d {
                 return Planned::Bad(2);
             }
-            let Link::Record(rec) = record(region, r.m, d) else {
+            let Link::Record(rec) = reach(region, r.m, d) else {
                 return Planned::Bad(9);
             };
             call(r, a, rec, next, enter(seg, facts, r.sp, a))
@@ -267,7 +267,7 @@ fn act(
             if region.len() < r.sp + 1 {
                 return Planned::Bad(3);
             }
-            let Link::Record(rec) = record(region, r.m, d) else {
+            let Link::Record(rec) = reach(region, r.m, d) else {
                 return Planned::Bad(9);
             };
             store(region, r, rec, a, next)
@@ -277,7 +277,7 @@ fn act(
             let Operand::Got { value: a, next } = operand::big(seg, at) else {
                 return Planned::Bad(1);
             };
-            let Link::Record(rec) = record(region, r.m, 1) else {
+            let Link::Record(rec) = reach(region, r.m, 1) else {
                 return Planned::Bad(9);
             };
             load(region, facts.floor, r, rec, a, next)
@@ -287,7 +287,7 @@ fn act(
             let Operand::Got { value: a, next } = operand::big(seg, at) else {
                 return Planned::Bad(1);
             };
-            let Link::Record(rec) = record(region, r.m, 2) else {
+            let Link::Record(rec) = reach(region, r.m, 2) else {
                 return Planned::Bad(9);
             };
             load(region, facts.floor, r, rec, a, next)
@@ -354,7 +354,7 @@ fn act(
             let Operand::Got { value: a, next } = operand::unsigned(seg, at) else {
                 return Planned::Bad(1);
             };
-            let Link::Record(rec) = record(region, r.m, 1) else {
+            let Link::Record(rec) = reach(region, r.m, 1) else {
                 return Planned::Bad(9);
             };
             call(r, a, rec, next, enter(seg, facts, r.sp, a))
@@ -364,7 +364,7 @@ fn act(
             let Operand::Got { value: a, next } = operand::unsigned(seg, at) else {
                 return Planned::Bad(1);
             };
-            let Link::Record(rec) = record(region, r.m, 2) else {
+            let Link::Record(rec) = reach(region, r.m, 2) else {
                 return Planned::Bad(9);
             };
             call(r, a, rec, next, enter(seg, facts, r.sp, a))

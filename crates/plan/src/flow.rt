@@ -98,7 +98,7 @@ fn walk(region: &[u16], m: usize, d: u16) -> Link
 
 // The record that d static links lead to. One link, the most common number, is followed in line. The walk is lent a part that is made for
 // it: a region lent to a call as it came would live in memory, and not in registers, at every step.
-pub fn record(region: &[u16], m: usize, d: u16) -> Link
+pub fn reach(region: &[u16], m: usize, d: u16) -> Link
     requires { ⌜ m < length (now region) ⌝ }
     ensures { λ r. ⌜ linkOf r ≡ follow (now (region .entry)) m d ⌝ }
 {

@@ -9,7 +9,7 @@ pub use flow::call;
 pub use flow::enter;
 pub use flow::give_back;
 pub use flow::jump;
-pub use flow::record;
+pub use flow::reach;
 pub use places::address;
 pub use places::index;
 pub use places::load;

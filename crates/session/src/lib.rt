@@ -66,8 +66,7 @@ fn kind_ok(code: &[u8], k: Kind) -> bool
 pub fn cpu_ok(code: &[u8], len: usize, c: Cpu) -> bool
     ensures { λ r. ⌜ r ≡ cpuOk (now (code .entry)) len c ⌝ }
 {
-    let first = segment::routine_of(code, 1);
-    let low = 6 + first.datasize as usize;
+    let low = segment::floor(code);
     let head = segment::head(code);
     let sp = c.regs.sp;
     let m = c.regs.m;

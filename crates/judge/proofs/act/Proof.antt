@@ -91,9 +91,9 @@ act-spec = tie.close (tie.spec
     let arm = first .before in let ready = arm .before .before .before .before .pre .0 in
     both ready _ (arm .match .keys8) refl (first .unsigned2 .ensures) (second .before .before .d .given .1) (second .big6 .ensures)
     (linked .before .before .before .a8 .given .1) (linked .before .if1 .left) refl
-    (bad-adr ready _ (up _) (strayed _ _ _ _ (linked .«record» .ensures) (c .enum-told10 .given .1)) _ (bad _ 9)))
+    (bad-adr ready _ (up _) (strayed _ _ _ _ (linked .reach .ensures) (c .enum-told10 .given .1)) _ (bad _ 9)))
     (λ c κs. let ready = c .before .before .before .before .before .before .before .before .before .before .before .before .before .before .before .before .before .pre .0 in
-    (omega arith, (rec-fits ready _ (c .before .before .before .«record» .ensures) (c .before .rec .given .1), ready .small)))
+    (omega arith, (rec-fits ready _ (c .before .before .before .reach .ensures) (c .before .rec .given .1), ready .small)))
     -- LOD
     (λ c κs. search needs)
     (λ c. c .match12 .keys1)
@@ -117,9 +117,9 @@ act-spec = tie.close (tie.spec
     let arm = first .before in let ready = arm .before .before .before .before .pre .0 in
     both ready _ (arm .match .keys9) refl (first .unsigned3 .ensures) (second .before .before .d2 .given .1) (second .big7 .ensures)
     (linked .before .before .before .a9 .given .1) (linked .before .if2 .left) refl
-    (bad-lod ready _ (up _) (strayed _ _ _ _ (linked .record2 .ensures) (c .enum-told13 .given .1)) _ (bad _ 9)))
+    (bad-lod ready _ (up _) (strayed _ _ _ _ (linked .reach2 .ensures) (c .enum-told13 .given .1)) _ (bad _ 9)))
     (λ c κs. let ready = c .before .before .before .before .before .before .before .before .before .before .before .before .before .before .before .before .before .pre .0 in
-    (omega arith, rec-fits ready _ (c .before .before .before .record2 .ensures) (c .before .rec2 .given .1)))
+    (omega arith, rec-fits ready _ (c .before .before .before .reach2 .ensures) (c .before .rec2 .given .1)))
     -- UJP
     (λ c κs. search needs)
     (λ c. c .match15 .keys1)
@@ -188,10 +188,10 @@ act-spec = tie.close (tie.spec
     let arm = first .before in let ready = arm .before .before .before .before .pre .0 in
     both ready _ (arm .match .keys17) refl (first .unsigned6 .ensures) (second .before .before .d3 .given .1) (second .unsigned7 .ensures)
     (linked .before .before .before .a14 .given .1) (linked .before .if3 .left) refl
-    (bad-cal ready _ (up _) (strayed _ _ _ _ (linked .record3 .ensures) (c .enum-told20 .given .1)) _ (bad _ 9)))
+    (bad-cal ready _ (up _) (strayed _ _ _ _ (linked .reach3 .ensures) (c .enum-told20 .given .1)) _ (bad _ 9)))
     (λ c κs. search needs)
     (λ c κs. let ready = c .before .before .before .before .before .before .before .before .before .before .before .before .before .before .before .before .before .before .pre .0 in (
-      omega (arith, rec-fits ready _ (c .before .before .before .before .record3 .ensures) (c .before .before .rec3 .given .1)),
+      omega (arith, rec-fits ready _ (c .before .before .before .before .reach3 .ensures) (c .before .before .rec3 .given .1)),
       near ready UB _ (c .before .before .before .before .before .before .before .before .before .unsigned7 .ensures) (c .before .before .before .before .before .before .before .a14 .given .1),
     ))
     -- RPU
@@ -253,9 +253,9 @@ act-spec = tie.close (tie.spec
     let first = second .before .before .before .before in let arm = first .before in let ready = arm .before .before .before .before .pre .0 in
     both ready _ (arm .match .keys27) refl (first .unsigned8 .ensures) (second .before .before .d4 .given .1) (second .big11 .ensures)
     (linked .before .before .before .before .before .a18 .given .1) (linked .before .before .before .if4 .left) refl
-    (bad-sto ready _ (up _) (strayed _ _ _ _ (linked .record4 .ensures) (c .enum-told26 .given .1)) _ (bad _ 9) (linked .before .if5 .left)))
+    (bad-sto ready _ (up _) (strayed _ _ _ _ (linked .reach4 .ensures) (c .enum-told26 .given .1)) _ (bad _ 9) (linked .before .if5 .left)))
     (λ c κs. let ready = c .before .before .before .before .before .before .before .before .before .before .before .before .before .before .before .before .before .before .before .pre .0 in
-    (omega arith, (rec-fits ready _ (c .before .before .before .record4 .ensures) (c .before .rec4 .given .1), ready .small)))
+    (omega arith, (rec-fits ready _ (c .before .before .before .reach4 .ensures) (c .before .rec4 .given .1), ready .small)))
     -- SLOD1
     (λ c κs. search needs)
     (λ c. c .match28 .keys1)
@@ -268,9 +268,9 @@ act-spec = tie.close (tie.spec
     (λ c. let linked = c .before .before in let got = linked .before .before .before .before in let arm = got .before in
     let ready = arm .before .before .before .before .pre .0 in
     one ready _ (arm .match .keys28) refl (got .big12 .ensures) (linked .before .before .a19 .given .1) refl
-    (bad-lod ready _ (up 1) (strayed _ _ _ _ (linked .record5 .ensures) (c .enum-told28 .given .1)) _ (bad _ 9)))
+    (bad-lod ready _ (up 1) (strayed _ _ _ _ (linked .reach5 .ensures) (c .enum-told28 .given .1)) _ (bad _ 9)))
     (λ c κs. let ready = c .before .before .before .before .before .before .before .before .before .before .before .before .pre .0 in
-    (omega arith, rec-fits ready 1 (c .before .before .before .record5 .ensures) (c .before .rec5 .given .1)))
+    (omega arith, rec-fits ready 1 (c .before .before .before .reach5 .ensures) (c .before .rec5 .given .1)))
     -- SLOD2
     (λ c κs. search needs)
     (λ c. c .match30 .keys1)
@@ -283,9 +283,9 @@ act-spec = tie.close (tie.spec
     (λ c. let linked = c .before .before in let got = linked .before .before .before .before in let arm = got .before in
     let ready = arm .before .before .before .before .pre .0 in
     one ready _ (arm .match .keys29) refl (got .big13 .ensures) (linked .before .before .a20 .given .1) refl
-    (bad-lod ready _ (up 2) (strayed _ _ _ _ (linked .record6 .ensures) (c .enum-told30 .given .1)) _ (bad _ 9)))
+    (bad-lod ready _ (up 2) (strayed _ _ _ _ (linked .reach6 .ensures) (c .enum-told30 .given .1)) _ (bad _ 9)))
     (λ c κs. let ready = c .before .before .before .before .before .before .before .before .before .before .before .before .pre .0 in
-    (omega arith, rec-fits ready 2 (c .before .before .before .record6 .ensures) (c .before .rec6 .given .1)))
+    (omega arith, rec-fits ready 2 (c .before .before .before .reach6 .ensures) (c .before .rec6 .given .1)))
     -- EQUI
     (λ c κs. search needs)
     -- NEQI
@@ -357,10 +357,10 @@ act-spec = tie.close (tie.spec
     (λ c. let linked = c .before .before in let got = linked .before .before .before .before in let arm = got .before in
     let ready = arm .before .before .before .before .pre .0 in
     one ready _ (arm .match .keys48) refl (got .unsigned9 .ensures) (linked .before .before .a24 .given .1) refl
-    (bad-cal ready _ (up 1) (strayed _ _ _ _ (linked .record7 .ensures) (c .enum-told35 .given .1)) _ (bad _ 9)))
+    (bad-cal ready _ (up 1) (strayed _ _ _ _ (linked .reach7 .ensures) (c .enum-told35 .given .1)) _ (bad _ 9)))
     (λ c κs. search needs)
     (λ c κs. let ready = c .before .before .before .before .before .before .before .before .before .before .before .before .before .pre .0 in (
-      omega (arith, rec-fits ready 1 (c .before .before .before .before .record7 .ensures) (c .before .before .rec7 .given .1)),
+      omega (arith, rec-fits ready 1 (c .before .before .before .before .reach7 .ensures) (c .before .before .rec7 .given .1)),
       near ready UB _ (c .before .before .before .before .before .before .before .before .unsigned9 .ensures) (c .before .before .before .before .before .before .a24 .given .1),
     ))
     -- SCPI2
@@ -375,10 +375,10 @@ act-spec = tie.close (tie.spec
     (λ c. let linked = c .before .before in let got = linked .before .before .before .before in let arm = got .before in
     let ready = arm .before .before .before .before .pre .0 in
     one ready _ (arm .match .keys49) refl (got .unsigned10 .ensures) (linked .before .before .a25 .given .1) refl
-    (bad-cal ready _ (up 2) (strayed _ _ _ _ (linked .record8 .ensures) (c .enum-told37 .given .1)) _ (bad _ 9)))
+    (bad-cal ready _ (up 2) (strayed _ _ _ _ (linked .reach8 .ensures) (c .enum-told37 .given .1)) _ (bad _ 9)))
     (λ c κs. search needs)
     (λ c κs. let ready = c .before .before .before .before .before .before .before .before .before .before .before .before .before .pre .0 in (
-      omega (arith, rec-fits ready 2 (c .before .before .before .before .record8 .ensures) (c .before .before .rec8 .given .1)),
+      omega (arith, rec-fits ready 2 (c .before .before .before .before .reach8 .ensures) (c .before .before .rec8 .given .1)),
       near ready UB _ (c .before .before .before .before .before .before .before .before .unsigned10 .ensures) (c .before .before .before .before .before .before .a25 .given .1),
     ))
     -- TJP
@@ -434,13 +434,13 @@ act-spec = tie.close (tie.spec
     let first = second .before .before .before .before in let arm = first .before in let ready = arm .before .before .before .before .pre .0 in
     both ready _ (arm .match .keys8) refl (first .unsigned2 .ensures) (second .before .before .d .given .1) (second .big6 .ensures)
     (linked .before .before .before .a8 .given .1) (linked .before .if1 .left) refl
-    (adr ready _ (up _) (walked _ _ _ _ (linked .«record» .ensures) _ (c .before .before .rec .given .1)) _ (c .address3 .ensures)))
+    (adr ready _ (up _) (walked _ _ _ _ (linked .reach .ensures) _ (c .before .before .rec .given .1)) _ (c .address3 .ensures)))
     -- LOD
     (λ c. let linked = c .before .before .before .before in let second = linked .before .before .before .before .before in
     let first = second .before .before .before .before in let arm = first .before in let ready = arm .before .before .before .before .pre .0 in
     both ready _ (arm .match .keys9) refl (first .unsigned3 .ensures) (second .before .before .d2 .given .1) (second .big7 .ensures)
     (linked .before .before .before .a9 .given .1) (linked .before .if2 .left) refl
-    (lod ready _ (up _) (walked _ _ _ _ (linked .record2 .ensures) _ (c .before .before .rec2 .given .1)) _ (c .load3 .ensures)))
+    (lod ready _ (up _) (walked _ _ _ _ (linked .reach2 .ensures) _ (c .before .before .rec2 .given .1)) _ (c .load3 .ensures)))
     -- UJP
     (λ c. let got = c .before .before .before .before in let arm = got .before in let ready = arm .before .before .before .before .pre .0 in
     one ready _ (arm .match .keys10) refl (got .signed .ensures) (c .before .before .a10 .given .1) refl (jmp ready _ _ (c .jump .ensures)))
@@ -469,7 +469,7 @@ act-spec = tie.close (tie.spec
     let first = second .before .before .before .before in let arm = first .before in let ready = arm .before .before .before .before .pre .0 in
     both ready _ (arm .match .keys17) refl (first .unsigned6 .ensures) (second .before .before .d3 .given .1) (second .unsigned7 .ensures)
     (linked .before .before .before .a14 .given .1) (linked .before .if3 .left) refl
-    (cal ready _ (up _) (walked _ _ _ _ (linked .record3 .ensures) _ (c .before .before .before .rec3 .given .1)) _ (c .call3 .ensures) (c .before .enter3 .ensures)))
+    (cal ready _ (up _) (walked _ _ _ _ (linked .reach3 .ensures) _ (c .before .before .before .rec3 .given .1)) _ (c .call3 .ensures) (c .before .enter3 .ensures)))
     -- RPU
     (λ c. let got = c .before .before .before .before in let arm = got .before in let ready = arm .before .before .before .before .pre .0 in
     one ready _ (arm .match .keys18) refl (got .big8 .ensures) (c .before .before .a15 .given .1) refl (ret ready _ _ (c .give-back .ensures)))
@@ -501,17 +501,17 @@ act-spec = tie.close (tie.spec
     let first = second .before .before .before .before in let arm = first .before in let ready = arm .before .before .before .before .pre .0 in
     both ready _ (arm .match .keys27) refl (first .unsigned8 .ensures) (second .before .before .d4 .given .1) (second .big11 .ensures)
     (linked .before .before .before .before .before .a18 .given .1) (linked .before .before .before .if4 .left) refl
-    (sto ready _ (up _) (walked _ _ _ _ (linked .record4 .ensures) _ (c .before .before .rec4 .given .1)) _ (c .store3 .ensures)))
+    (sto ready _ (up _) (walked _ _ _ _ (linked .reach4 .ensures) _ (c .before .before .rec4 .given .1)) _ (c .store3 .ensures)))
     -- SLOD1
     (λ c. let linked = c .before .before .before .before in let got = linked .before .before .before .before in let arm = got .before in
     let ready = arm .before .before .before .before .pre .0 in
     one ready _ (arm .match .keys28) refl (got .big12 .ensures) (linked .before .before .a19 .given .1) refl
-    (lod ready _ (up 1) (walked _ _ _ _ (linked .record5 .ensures) _ (c .before .before .rec5 .given .1)) _ (c .load4 .ensures)))
+    (lod ready _ (up 1) (walked _ _ _ _ (linked .reach5 .ensures) _ (c .before .before .rec5 .given .1)) _ (c .load4 .ensures)))
     -- SLOD2
     (λ c. let linked = c .before .before .before .before in let got = linked .before .before .before .before in let arm = got .before in
     let ready = arm .before .before .before .before .pre .0 in
     one ready _ (arm .match .keys29) refl (got .big13 .ensures) (linked .before .before .a20 .given .1) refl
-    (lod ready _ (up 2) (walked _ _ _ _ (linked .record6 .ensures) _ (c .before .before .rec6 .given .1)) _ (c .load5 .ensures)))
+    (lod ready _ (up 2) (walked _ _ _ _ (linked .reach6 .ensures) _ (c .before .before .rec6 .given .1)) _ (c .load5 .ensures)))
     -- EQUI
     (λ c. let arm = c .before in let ready = arm .before .before .before .before .pre .0 in
     bare ready _ (arm .match .keys30) refl (bin ready _ eqOf (c .two-words6 .ensures)))
@@ -572,12 +572,12 @@ act-spec = tie.close (tie.spec
     (λ c. let linked = c .before .before .before .before .before in let got = linked .before .before .before .before in let arm = got .before in
     let ready = arm .before .before .before .before .pre .0 in
     one ready _ (arm .match .keys48) refl (got .unsigned9 .ensures) (linked .before .before .a24 .given .1) refl
-    (cal ready _ (up 1) (walked _ _ _ _ (linked .record7 .ensures) _ (c .before .before .before .rec7 .given .1)) _ (c .call4 .ensures) (c .before .enter4 .ensures)))
+    (cal ready _ (up 1) (walked _ _ _ _ (linked .reach7 .ensures) _ (c .before .before .before .rec7 .given .1)) _ (c .call4 .ensures) (c .before .enter4 .ensures)))
     -- SCPI2
     (λ c. let linked = c .before .before .before .before .before in let got = linked .before .before .before .before in let arm = got .before in
     let ready = arm .before .before .before .before .pre .0 in
     one ready _ (arm .match .keys49) refl (got .unsigned10 .ensures) (linked .before .before .a25 .given .1) refl
-    (cal ready _ (up 2) (walked _ _ _ _ (linked .record8 .ensures) _ (c .before .before .before .rec8 .given .1)) _ (c .call5 .ensures) (c .before .enter5 .ensures)))
+    (cal ready _ (up 2) (walked _ _ _ _ (linked .reach8 .ensures) _ (c .before .before .before .rec8 .given .1)) _ (c .call5 .ensures) (c .before .enter5 .ensures)))
     -- TJP
     (λ c. let got = c .before .before .before .before .before .before in let arm = got .before in let ready = arm .before .before .before .before .pre .0 in
     one ready _ (arm .match .keys50) refl (got .signed3 .ensures) (c .before .before .before .before .a26 .given .1) refl

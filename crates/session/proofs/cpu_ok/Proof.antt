@@ -13,7 +13,7 @@ cpu-ok-spec =
     (tie.spec
     (search needs) (search needs) (search needs) (search needs) (search needs) (search needs) (search needs) (search needs)
     (search needs) (search needs) (search needs) (search needs) (search needs) (search needs) (search needs) (search needs)
-    (search needs) (search needs) (search needs) (search needs) (search needs) (search needs) (search needs) (search needs)
+    (search needs) (search needs) (search needs) (search needs) (search needs) (search needs)
     (λ c.
     let d = c .before .before .before .before in
     let e = d .before .before .before .before in
@@ -40,5 +40,5 @@ cpu-ok-spec =
       g .before .kind-ok .ensures,
       g .before .before .at-most .ensures,
       g .before .before .before .before .head .ensures,
-      g .before .before .before .before .before .before .routine-of .ensures,
+      g .before .before .before .before .before .floor .ensures,
     )))

@@ -15,10 +15,10 @@ returns-2 c =
     simp (follow-more region m (c .before .before .before .before .args .d) (c .before .if2 .left), List·getD-eq-default region 0 (c .before .before .if1 .taken))
 
 returns-3 : tie.Need-returns-3
-returns-3 c = simp (← c .before .before .before .walk .ensures, c .before .l .given .1)
+returns-3 c = simp (← c .before .before .before .reach .ensures, c .before .l .given .1)
 
 returns-4 : tie.Need-returns-4
-returns-4 c = simp (c .bad-link .ensures, ← c .before .before .before .walk .ensures, c .before .enum-told .given .1)
+returns-4 c = simp (c .bad-link .ensures, ← c .before .before .before .reach .ensures, c .before .enum-told .given .1)
 
 pub up-spec : {M : Type 1} → statement M
 up-spec =
