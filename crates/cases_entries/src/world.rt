@@ -88,7 +88,13 @@ fn follow(b: Bench, memory: &mut [u16], store: &mut [u8], what: u8, text: &[u8])
             cases_requests::look(b, memory, store, what, numbers(text));
             b
         }
-        b'N' | b'L' | b'O' | b'T' | b'X' => cases_requests::enter(b, memory, store, what, numbers(text)),
+        b'N' | b'L' | b'O' | b'T' | b'X' => cases_requests::enter(
+            b,
+            memory,
+            store,
+            what,
+            numbers(text),
+        ),
         _ => b,
     }
 }
