@@ -19,9 +19,9 @@ first-unused-spec =
     (search needs)
     (search needs)
     (λ c. let at = c .before .before .before .before in
-        first-found _ _ (at .loop .i) (search needs) (at .loop .inv .1) _ (omega arith) (c .if1 .taken))
+    first-found _ _ (at .loop .i) (search needs) (at .loop .inv .1) _ (omega arith) (c .if1 .taken))
     (search needs)
     (search needs)
     (λ c. let at = c .before .before .before .before in
-        (omega arith, first-next _ _ (at .loop .i) (search needs) (at .loop .inv .1) _ (omega arith) (c .if1 .left)))
+    (omega arith, first-next _ _ (at .loop .i) (search needs) (at .loop .inv .1) _ (omega arith) (c .if1 .left)))
     (λ c. first-none _ _ (c .before .loop .i) (search needs) (c .before .loop .inv .1) (omega arith)))
