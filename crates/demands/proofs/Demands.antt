@@ -58,7 +58,7 @@ demands =
       output-rest = λ s o. writes s o .rest;
       new-sound = new-sound;
       stays-sound = stays-sound;
-      fifteen = λ store w slot len g ld lk left. fifteen store w slot len g ld lk left;
+      fifteen = fifteen;
       opened = λ store w slot len i g e. let o = opened-is store w slot len g i e in search only-there;
       closed = λ store w i g u. let o = closed store w i g u in (o .0, search only-there);
       one-answer = one-answer;

@@ -13,14 +13,13 @@ use borrow.Author.Tests.{lt-ltb, le-ltb, le-leb}
 use Rattle.basis.proofs.Bools.{inside-holds, cond-holds}
 use Rattle.operand.specs.Bytes.{byteAt}
 use Rattle.operand.specs.Operand.{Form, UB, SB, DB, B, W, ifThere, signed, fetched}
-use Rattle.pmachine.specs.State.{Registers}
+use Rattle.pmachine.specs.State.{Registers, State}
 use Rattle.pmachine.specs.Meaning.{Meaning}
 use Rattle.pmachine.specs.Opcode.{carried, opcode}
 use Rattle.pmachine.specs.Decoding.{all, joined, andThen, operands, lawful, allLawful, Instruction, instruction, decodedWith, rowDecoded, decode}
 use Rattle.pmachine.specs.Step.{Outcome, goes, floor, Ground, _when_, groundFor, firstFault, order, below, asks, effect, outcome, judgedBy, judge}
 use Rattle.pmachine.specs.Run.{isReady, written, step, run}
 use Rattle.demands.specs.Cases.{at-work}
-use Rattle.pmachine.specs.State.{State}
 use Rattle.pmachine.proofs.Frame.{step-goes}
 use Rattle.pmachine.proofs.Runs.{run-none, run-suc}
 

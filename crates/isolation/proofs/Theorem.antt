@@ -9,7 +9,7 @@ use lib.Dec.{leb}
 use Rattle.interleave.specs.Interleave.{By, mine, oneByOne, acts, answers, alone, aloneSays, Alike}
 use Rattle.interleave.proofs.Interleave.{interleaved, two-runs}
 use Rattle.sound.specs.Below.{SessionState, stateOf, cpuOf, runOf, countOf}
-use Rattle.sound.specs.Bench.{World, sessionAt, sharedOf, codeAt, stateAt, at-cpu}
+use Rattle.sound.specs.Bench.{World, sessionAt, sharedOf, codeAt, stateAt, at-cpu, wordsOf}
 use Rattle.sound.specs.Sound.{Sound}
 use Rattle.sound.proofs.Lists.{either-way}
 use Rattle.sound.proofs.Below.{run-none, run-add, count-none, count-add}

@@ -89,17 +89,8 @@ module _ (store : List ℕ) (w : World) (g : Sound store w) where
   pub parts : Parts (w .bench) (w .mem) store
   parts = taken-apart (w .bench) (w .mem) store (g .sound)
 
-  pub kept : Limits (w .bench .n) (w .bench .s)
-  kept = limits (w .bench .n) (w .bench .s) (parts .limits)
-
   pub long : length (w .mem) ≡ w .bench .n
   long = eqb-true (length (w .mem)) (w .bench .n) (parts .sized)
-
-  pub few-shared : w .bench .s ≤ 32768
-  few-shared = kept .few
-
-  pub shared-in : w .bench .s ≤ length (w .mem)
-  shared-in = rw long (kept .within)
 
   -- an open session is one of the sixteen
   pub used-in : (i : ℕ) → sessionAt w i .used ≡ true → i < length (w .bench .sessions)

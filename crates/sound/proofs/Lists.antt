@@ -2,7 +2,7 @@
 -- Above: Facts, bench, isolation. Below: `all` and `allApart` of specs/Sound.
 use mathlib.Core.Path.{_≡_, refl, sym, ap, _∙_}
 use mathlib.Core.List.{List, [], _∷_, map}
-use mathlib.Core.Bool.{Bool, true, false, _&&_, false≢true, and-false}
+use mathlib.Core.Bool.{Bool, true, false, _&&_, false≢true}
 use Prim.Native.Nat.{ℕ, zero, suc, _<_}
 use native.Mathlib.Omega.{arith}
 use lib.ListN.{length, length-map, getD, set, List·getD-eq-default}
@@ -35,11 +35,6 @@ module _ {A : Type 0} (p : A → Bool) where
       go : (b : Bool) → p x ≡ b → (all p l ≡ false → Missed l) → (b && all p l) ≡ false → Missed (x ∷ l)
       go true e f g = let r = f g in (suc (r .0), omega (arith, r .1), r .2)
       go false e f g = (0, omega arith, e)
-
-  pub all-miss : (l : List A) (i : ℕ) (d : A) → i < length l → p (getD l i d) ≡ false → all p l ≡ false
-  all-miss [] i d h e = absurd (omega arith)
-  all-miss (x ∷ l) zero d h e = rw e
-  all-miss (x ∷ l) (suc i) d h e = rw (all-miss l i d (omega arith) e) (and-false (p x))
 
   -- one element replaced by one that passes as it did, or by one that passes
   pub all-set : (l : List A) (i : ℕ) (d x : A) → p x ≡ p (getD l i d) → all p (set l i x) ≡ all p l

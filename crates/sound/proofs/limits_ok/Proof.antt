@@ -15,4 +15,5 @@ limits-ok-spec =
     (search needs)
     (search needs)
     (search needs)
-    (λ c. cc))
+    (λ c. let shared = c .before .before in
+    rw (c .both2 .ensures, c .before .both .ensures, shared .at-most3 .ensures, shared .before .at-most2 .ensures, shared .before .before .at-most .ensures)))

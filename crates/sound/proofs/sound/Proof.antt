@@ -20,4 +20,19 @@ sound-spec =
     (search needs)
     (search needs)
     (search needs)
-    (λ c. cc))
+    (λ c.
+    let loaded = c .before .before .before .before in
+    let placed = loaded .before .before in
+    let apart = placed .before .before in
+    rw (
+      c .both5 .ensures,
+      c .before .both4 .ensures,
+      c .before .before .before .limits-ok .ensures,
+      loaded .both3 .ensures,
+      loaded .before .all-ok2 .ensures,
+      placed .both2 .ensures,
+      placed .before .all-placed .ensures,
+      apart .both .ensures,
+      apart .before .all-apart .ensures,
+      apart .before .before .all-ok .ensures,
+    )))

@@ -14,4 +14,5 @@ are-apart-spec =
     (search needs)
     (search needs)
     (search needs)
-    (λ c. cc))
+    (λ c. let low = c .before .before in
+    rw (low .before .before .before .if1 .left, low .before .if2 .left, c .either .ensures, low .ends-by .ensures, c .before .ends-by2 .ensures)))

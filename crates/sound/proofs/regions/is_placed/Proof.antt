@@ -14,4 +14,5 @@ is-placed-spec =
     (search needs)
     (search needs)
     (search needs)
-    (λ c. cc))
+    (λ c. let low = c .before .before in
+    rw (low .before .if1 .left, c .both .ensures, low .at-most .ensures, c .before .ends-by .ensures)))
