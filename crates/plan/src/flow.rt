@@ -96,14 +96,20 @@ fn walk(region: &[u16], m: usize, d: u16) -> Link
     walk(region, up, d - 1)
 }
 
-// The record that d static links lead to. One link, the most common number, is followed in line. The walk is lent a part that is made for
-// it: a region lent to a call as it came would live in memory, and not in registers, at every step.
+// The record that d static links lead to. One link and two, the most common numbers, are followed in line. The walk is lent a part that
+// is made for it: a region lent to a call as it came would live in memory, and not in registers, at every step.
 pub fn reach(region: &[u16], m: usize, d: u16) -> Link
     requires { ⌜ m < length (now region) ⌝ }
     ensures { λ r. ⌜ linkOf r ≡ follow (now (region .entry)) m d ⌝ }
 {
     if d == 1 {
         return link(region, m);
+    }
+    if d == 2 {
+        let Link::Record(up) = link(region, m) else {
+            return Link::Broken;
+        };
+        return link(region, up);
     }
     walk(&region[0..], m, d)
 }
