@@ -27,7 +27,7 @@ pub struct Numbers {
 
 pub fn numbers_of(seg: &[u8], len: usize, shared: usize, regs: Regs) -> Numbers {
     let head = segment::head(seg);
-    let floor = segment::floor(seg) as u32;
+    let floor = segment::floor(seg);
     Numbers {
         kept: is_kept(seg.len(), head.count, floor, len, shared, regs),
         code: narrow(seg.len()),

@@ -28,7 +28,7 @@ pub use gaps::gap_for;
 fn len_ok(code: &[u8], len: usize) -> bool
     ensures { λ r. ⌜ r ≡ lenOk (now (code .entry)) len ⌝ }
 {
-    let low = segment::floor(code);
+    let low = segment::floor(code) as usize;
     both(
         at_most(16, len),
         both(at_most(len, 32768), at_most(low, len)),

@@ -27,7 +27,7 @@ pub fn facts_of(seg: &[u8]) -> Facts
         dict: head.dict as usize,
         count: head.count as usize,
         pool: head.pool as usize,
-        floor: segment::floor(seg),
+        floor: segment::floor(seg) as usize,
     }
 }
 

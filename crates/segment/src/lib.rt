@@ -119,9 +119,9 @@ pub fn routine_of(seg: &[u8], k: u16) -> Routine
 }
 
 // 6+G, below which the stack pointer never lies: G is DATASIZE of routine 1.
-pub fn floor(seg: &[u8]) -> usize
+pub fn floor(seg: &[u8]) -> u32
     ensures { λ r. ⌜ r ≡ 6 + datasize (now (seg .entry)) 1 ⌝ }
 {
     let first = routine_of(seg, 1);
-    6 + first.datasize as usize
+    6 + first.datasize as u32
 }

@@ -66,7 +66,7 @@ fn kind_ok(code: &[u8], k: Kind) -> bool
 pub fn cpu_ok(code: &[u8], len: usize, c: Cpu) -> bool
     ensures { λ r. ⌜ r ≡ cpuOk (now (code .entry)) len c ⌝ }
 {
-    let low = segment::floor(code);
+    let low = segment::floor(code) as usize;
     let head = segment::head(code);
     let sp = c.regs.sp;
     let m = c.regs.m;

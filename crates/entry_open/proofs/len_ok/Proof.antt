@@ -21,4 +21,5 @@ len-ok-spec =
     (search needs)
     (search needs)
     (search needs)
+    (search needs)
     returns)

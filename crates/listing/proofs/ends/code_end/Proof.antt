@@ -29,8 +29,11 @@ loop-again c = (omega arith, more _ _ _ _ _ (c .nearest-of .ensures) (c .before 
 
 returns : tie.Need-returns Inv-loop μ-loop
 returns c =
-    let e : c .before .loop .k ≡ c .before .before .before .head .result .count = omega arith in
-    c .before .loop .inv .1 ∙ ap (endBy (now (c .before .before .before .before .before .args .seg)) (c .before .before .before .before .before .args .start)) (e ∙ ap (λ (h : Segment). h .count) (c .before .before .before .head .ensures))
+    let around = c .before .loop in
+    let read = c .before .before .before in
+    let a = read .before .before .args in
+    let e : around .k ≡ read .head .result .count = omega arith in
+    around .inv .1 ∙ ap (endBy (now (a .seg)) (a .start)) (e ∙ ap (λ (h : Segment). h .count) (read .head .ensures))
 
 pub code-end-spec : {M : Type 1} → statement M
 code-end-spec =
