@@ -1,8 +1,6 @@
 // Soundness of the regions: each lies above the shared words and inside memory, and no two overlap.
 // Above: the test in lib. Below: the small tests of word.
 ghost use mathlib.Core.Path.{_≡_};
-ghost use Prim.Native.Nat.{_≤_};
-ghost use lib.ListN.{drop};
 ghost use Rattle.sound.specs.Sound.{all, placed, apart, allApart};
 use super::Session;
 use bounds::at_most;
@@ -48,30 +46,22 @@ fn are_apart(a: Session, b: Session) -> bool
     )
 }
 
-// Whether session a is apart from every session from number `from` on.
-fn apart_from(a: Session, sessions: [Session; 16], from: usize) -> bool
-    requires { ⌜ from ≤ 16 ⌝ }
-    ensures { λ r. ⌜ r ≡ all (apart a) (drop from sessions) ⌝ }
-{
-    let mut i = from;
-    while i < 16 {
-        let se = sessions[i];
-        if !are_apart(a, se) {
-            return false;
-        }
-        i += 1;
-    }
-    true
-}
-
+// The loop inside stands here, and not in a function of its own, because sixteen records are too many to hand on for each session.
 pub fn all_apart(sessions: [Session; 16]) -> bool
     ensures { λ r. ⌜ r ≡ allApart sessions ⌝ }
 {
     let mut i: usize = 0;
     while i < 16 {
         let se = sessions[i];
-        if !apart_from(se, sessions, i + 1) {
-            return false;
+        if se.used {
+            let mut j = i + 1;
+            while j < 16 {
+                let other = sessions[j];
+                if !are_apart(se, other) {
+                    return false;
+                }
+                j += 1;
+            }
         }
         i += 1;
     }
