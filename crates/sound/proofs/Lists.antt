@@ -70,10 +70,10 @@ apart-at (x ∷ l) (suc i) (suc j) d h o u =
     apart-at l i j d (and-snd (all (apart x) l) (allApart l) h) (omega arith) (omega arith)
 
 -- a record that is not used is apart from all
-pub unused-apart : (a : Session) (l : List Session) → a .used ≡ false → all (apart a) l ≡ true
+pub unused-from-all : (a : Session) (l : List Session) → a .used ≡ false → all (apart a) l ≡ true
 unfolding apart
-unused-apart a [] h = refl
-unused-apart a (x ∷ l) h = rw (unused-apart a l h, h)
+unused-from-all a [] h = refl
+unused-from-all a (x ∷ l) h = rw (unused-from-all a l h, h)
 
 -- other registers in a record change nothing of who is apart
 pub apart-set : (l : List Session) (i : ℕ) (d : Session) (c : Cpu) → allApart (set l i (at-cpu (getD l i d) c)) ≡ allApart l

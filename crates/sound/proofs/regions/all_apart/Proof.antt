@@ -3,7 +3,7 @@
 use Rattle.sound.specs.Sound.{all, apart, allApart}
 use lib.ListN.{drop}
 use Prim.Native.Nat.{_+_, _≤_, _-_}
-use Rattle.sound.proofs.Lists.{unused-apart}
+use Rattle.sound.proofs.Lists.{unused-from-all}
 use Rattle.sound.proofs.Loops as laws
 use borrow.Author.Needs.{needs}
 use mathlib.Core.Logic.{⊎-elim}
@@ -48,7 +48,7 @@ all-apart-spec =
       omega arith,
       laws.goes allApart (λ x l. all (apart x) l) (λ x l. refl) _ (at .loop .i) (search needs) (at .loop .inv .1) _ (omega arith)
           (⊎-elim (λ t. laws.ends (all (apart _)) _ (t .1 .j) (search needs) (t .1 .inv .1) refl (t .2 .left))
-          (λ t. sym (unused-apart _ (drop (at .loop .i + 1) (at .before .args .t1)) (t .left)))
+          (λ t. sym (unused-from-all _ (drop (at .loop .i + 1) (at .before .args .t1)) (t .left)))
           (c .if1 .came))
           refl,
     ))
