@@ -22,4 +22,6 @@ len-ok-spec =
     (search needs)
     (search needs)
     (search needs)
+    (search needs)
+    (search needs)
     returns)
