@@ -1,6 +1,7 @@
 // `fill FILE`: the shared words from a file, two bytes a word, least byte first.
 // Above it: the console. Below it: files.
 use pond_look::told;
+use pond_say::Outcome;
 use sound::Bench;
 use text::front;
 
@@ -11,31 +12,29 @@ fn space() -> [u8; 65538] {
     [0u8; 65538]
 }
 
-pub fn fill(b: Bench, memory: &mut [u16], file: &[u8]) {
+pub fn fill(b: Bench, memory: &mut [u16], file: &[u8]) -> Outcome {
     let mut room = space();
     let got = pond_files::read(file, &mut room);
-    let n = got.count;
-    let error = got.error;
-    if error != 0 {
-        pond_files::cannot(b"cannot read ", file, error);
-        return;
+    if !got.ok {
+        return Outcome::File;
     }
-    from_bytes(b, memory, file, front(&room, n));
+    from_bytes(b, memory, file, front(&room, got.count))
 }
 
 // Fills, where the bytes are whole words and no more than are shared.
-pub fn from_bytes(b: Bench, memory: &mut [u16], file: &[u8], bytes: &[u8]) {
+pub fn from_bytes(b: Bench, memory: &mut [u16], file: &[u8], bytes: &[u8]) -> Outcome {
     let n = bytes.len() / 2;
     if b.s < n {
         too_long(b.s, file, bytes.len());
-        return;
+        return Outcome::File;
     }
     if bytes.len() % 2 != 0 {
         odd(file, bytes.len());
-        return;
+        return Outcome::File;
     }
     pour_front(memory, n, bytes);
     filled(n, file);
+    Outcome::Done
 }
 
 // Into the first n words.

@@ -6,12 +6,16 @@
 pub mod fills;
 pub mod loads;
 mod made;
+mod nexts;
 mod sessions;
 pub mod turns;
 
 pub use fills::fill;
 pub use loads::load;
+pub use loads::load_named;
+pub use loads::slots;
 pub use made::new_bench;
+pub use nexts::Next;
 pub use pond_look::Wanted;
 pub use pond_look::map;
 pub use pond_look::shared;

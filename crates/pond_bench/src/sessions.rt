@@ -1,54 +1,71 @@
 // `open SLOT WORDS`, `show SESSION`, `close SESSION`.
 // Above it: the console. Below it: the bench, and what is told of a fault.
+use crate::nexts::Next;
 use bench::Answer;
 use plan::Regs;
 use pond_look::faults;
 use pond_look::refusals;
 use pond_look::told;
+use pond_say::Outcome;
 use sound::Bench;
 
-pub fn open(b: Bench, memory: &mut [u16], store: &[u8], slot: u64, words: u64) -> Bench {
+pub fn open(
+    b: Bench,
+    memory: &mut [u16],
+    store: &[u8],
+    book: &mut [u8],
+    slot: u64,
+    words: u64,
+    name: &[u8],
+) -> Next {
     let out = bench::open_session(b, memory, store, slot as usize, words as usize);
     let answer = out.answer;
     let after = out.bench;
-    match answer {
+    let outcome = match answer {
         Answer::Done(i) => {
-            state(after, i as usize);
+            pond_rows::put(book, pond_rows::session_row(i as usize), name);
+            state(after, book, i as usize)
         }
         Answer::Refused(number, place) => {
-            refusals::of_slot(number, place, slot, b" is not loaded\n");
+            refusals::of_slot(number, place, slot, b" is not loaded\n")
         }
+    };
+    Next {
+        bench: after,
+        outcome,
     }
-    after
 }
 
-// `session 0: slot 0, words 8 to 107 of memory, ready`
-fn state(b: Bench, i: usize) {
+// `session 0 north: slot 0 north, words 8 to 107 of memory, ready`
+fn state(b: Bench, book: &[u8], i: usize) -> Outcome {
     let se = told::record(b, i);
-    told::session(i);
-    pond_say::text(b"slot ");
-    pond_say::number(se.slot as u64);
+    told::session(book, i);
+    pond_say::text(b": ");
+    told::slot_of(book, se.slot);
     pond_say::text(b", ");
     told::span(se.base, se.len);
     pond_say::text(b" of memory, ");
     let cpu = se.cpu;
     let kind = cpu.kind;
     told::kind(kind);
+    told::from(book, se.slot);
     pond_say::end();
+    Outcome::Done
 }
 
-pub fn show(b: Bench, memory: &[u16], store: &[u8], session: u64) {
+// A session's fault is told and is no failure of this command.
+pub fn show(b: Bench, memory: &[u16], store: &[u8], book: &[u8], session: u64) -> Outcome {
     let i = session as usize;
     let se = told::record(b, i);
     if !se.used {
-        refusals::of_session(12, 0, session);
-        return;
+        return refusals::of_session(12, 0, session);
     }
-    state(b, i);
+    state(b, book, i);
     let cpu = se.cpu;
     registers(cpu.regs);
     faults::instruction(b, store, se);
     faults::reason(b, memory, store, se);
+    Outcome::Done
 }
 
 fn registers(r: Regs) {
@@ -64,25 +81,26 @@ fn register(label: &[u8], n: usize) {
     pond_say::number(n as u64);
 }
 
-pub fn close(b: Bench, memory: &mut [u16], store: &[u8], session: u64) -> Bench {
+pub fn close(b: Bench, memory: &mut [u16], store: &[u8], book: &mut [u8], session: u64) -> Next {
     let i = session as usize;
     let se = told::record(b, i);
     let out = bench::close(b, memory, store, i);
     let answer = out.answer;
-    match answer {
+    let bench = out.bench;
+    let outcome = match answer {
         Answer::Done(_) => {
-            closed(i, se.base, se.len);
+            closed(book, i, se.base, se.len);
+            pond_rows::put(book, pond_rows::session_row(i), b"");
+            Outcome::Done
         }
-        Answer::Refused(number, place) => {
-            refusals::of_session(number, place, session);
-        }
-    }
-    out.bench
+        Answer::Refused(number, place) => refusals::of_session(number, place, session),
+    };
+    Next { bench, outcome }
 }
 
-fn closed(i: usize, base: usize, len: usize) {
-    told::session(i);
-    pond_say::text(b"closed, ");
+fn closed(book: &[u8], i: usize, base: usize, len: usize) {
+    told::session(book, i);
+    pond_say::text(b": closed, ");
     told::span(base, len);
     pond_say::text(b" are free\n");
 }

@@ -1,11 +1,13 @@
 // `turn SESSION STEPS`: as many turns of the bench as the steps take, and how the session stands then.
 // Above it: the console. Below it: the bench, and what is told of a fault.
 ghost use Prim.Native.Nat.{_-_, _≤_};
+use crate::nexts::Next;
 use bench::Answer;
 use machine::Kind;
 use pond_look::faults;
 use pond_look::refusals;
 use pond_look::told;
+use pond_say::Outcome;
 use sound::Bench;
 use sound::Session;
 
@@ -21,32 +23,52 @@ pub struct Went {
 }
 
 // A turn of no steps is refused where any turn is.
-pub fn turn(b: Bench, memory: &mut [u16], store: &[u8], session: u64, steps: u64) -> Bench {
+pub fn turn(
+    b: Bench,
+    memory: &mut [u16],
+    store: &[u8],
+    book: &[u8],
+    session: u64,
+    steps: u64,
+) -> Next {
     let i = session as usize;
     let out = bench::turn(b, memory, store, i, 0);
     let answer = out.answer;
     match answer {
-        Answer::Done(_) => turned(b, memory, store, i, steps),
-        Answer::Refused(number, place) => {
-            refusals::of_session(number, place, session);
-            b
-        }
+        Answer::Done(_) => turned(b, memory, store, book, i, steps),
+        Answer::Refused(number, place) => Next {
+            bench: b,
+            outcome: refusals::of_session(number, place, session),
+        },
     }
 }
 
-fn turned(b: Bench, memory: &mut [u16], store: &[u8], i: usize, steps: u64) -> Bench {
+fn turned(b: Bench, memory: &mut [u16], store: &[u8], book: &[u8], i: usize, steps: u64) -> Next {
     let went = all(b, memory, store, i, steps);
     let after = went.bench;
     let se = told::record(after, i);
-    ended(i, went.steps, se);
+    ended(book, i, went.steps, se);
     faults::instruction(after, store, se);
-    faults::reason(after, memory, store, se);
-    after
+    let outcome = faults::reason(after, memory, store, se);
+    Next {
+        bench: after,
+        outcome: stopped(outcome),
+    }
 }
 
-// `session 0: 37 steps, ready`
-pub fn ended(i: usize, steps: u64, se: Session) {
-    told::session(i);
+// A turn that Ctrl-C has ended says so. The mark stays for the console.
+pub fn stopped(o: Outcome) -> Outcome {
+    if pond_say::interrupted() {
+        pond_say::text(b"stopped by Ctrl-C after these steps; another turn goes on from there\n");
+        return Outcome::Outside;
+    }
+    o
+}
+
+// `session 0 north: 37 steps, ready`
+pub fn ended(book: &[u8], i: usize, steps: u64, se: Session) {
+    told::session(book, i);
+    pond_say::text(b": ");
     told::counted(steps, b" step");
     pond_say::text(b", ");
     let cpu = se.cpu;
@@ -100,7 +122,7 @@ fn least(a: u64, b: u64) -> u64 {
     b
 }
 
-// The steps that are left after a turn that did n: none after a turn that did none, since the session has stopped.
+// The steps that are left after a turn that did n: none after a turn that did none, since the session has stopped, and none after Ctrl-C.
 fn rest(left: u64, n: u64) -> u64
     ensures { λ r. ⌜ r ≤ left - 1 ⌝ }
 {
@@ -108,6 +130,9 @@ fn rest(left: u64, n: u64) -> u64
         return 0;
     }
     if left < n {
+        return 0;
+    }
+    if pond_say::interrupted() {
         return 0;
     }
     left - n

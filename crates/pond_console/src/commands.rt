@@ -1,27 +1,29 @@
 // The commands by name, and which words each takes.
 // Above it: what is typed, a line or the program's arguments. Below it: a function for each command, in `pond_segments` for files and behind `pond_words` for the bench.
-use crate::help;
+use pond_bench::Next;
+use pond_rows::row;
+use pond_say::Outcome;
 use pond_words::expected;
 use sound::Bench;
-use text::Number;
 use text::same;
 
-// The commands that need no bench. A turn is one of these where its first word is no number.
+// The commands that need no bench.
 pub enum Command {
     Help,
+    Version,
     Check,
     List,
     Run,
     Demo,
     Quit,
+    Keep,
     Turn,
     Other,
 }
 
-fn named(verb: &[u8], first: &[u8]) -> Command {
-    if same(verb, b"help") {
-        return Command::Help;
-    }
+// The command on the tape.
+pub fn named(tape: &[u8]) -> Command {
+    let verb = row(tape, 0);
     if same(verb, b"check") {
         return Command::Check;
     }
@@ -31,138 +33,148 @@ fn named(verb: &[u8], first: &[u8]) -> Command {
     if same(verb, b"run") {
         return Command::Run;
     }
-    named_too(verb, first)
-}
-
-fn named_too(verb: &[u8], first: &[u8]) -> Command {
+    if same(verb, b"turn") {
+        return turn_of(row(tape, 1), row(tape, 2));
+    }
     if same(verb, b"demo") {
         return Command::Demo;
     }
-    if same(verb, b"quit") {
+    named_too(verb)
+}
+
+fn named_too(verb: &[u8]) -> Command {
+    if bounds::either(same(verb, b"quit"), same(verb, b"exit")) {
         return Command::Quit;
     }
-    if same(verb, b"turn") {
-        return turn_of(first);
+    if same(verb, b"keep") {
+        return Command::Keep;
+    }
+    if same(verb, b"--version") {
+        return Command::Version;
+    }
+    if same(verb, b"help") {
+        return Command::Help;
+    }
+    if bounds::either(same(verb, b"--help"), same(verb, b"-h")) {
+        return Command::Help;
     }
     Command::Other
 }
 
-// `turn SESSION STEPS` is a command on the bench.
-fn turn_of(first: &[u8]) -> Command {
-    let n = text::number_of(first);
-    match n {
-        Number::Value(_) => Command::Other,
-        Number::Beyond => Command::Other,
-        Number::Not => Command::Turn,
+// `turn SESSION STEPS` is a command on the bench: one of its words is a number.
+fn turn_of(first: &[u8], second: &[u8]) -> Command {
+    if pond_words::is_number(first) {
+        return Command::Other;
     }
+    if pond_words::is_number(second) {
+        return Command::Other;
+    }
+    Command::Turn
 }
 
-// How many words stand after the verb: 4 where there are more than three.
-fn given(first: &[u8], second: &[u8], third: &[u8], over: &[u8]) -> u8 {
-    if first.len() == 0 {
-        return 0;
-    }
-    if second.len() == 0 {
-        return 1;
-    }
-    if third.len() == 0 {
-        return 2;
-    }
-    if over.len() == 0 { 3 } else { 4 }
-}
-
-// Follows a command: its verb, the words after it, and the first word that is too many.
+// Follows the command on the tape, with n words behind its verb.
 pub fn follow(
     b: Bench,
     memory: &mut [u16],
     store: &mut [u8],
-    verb: &[u8],
-    first: &[u8],
-    second: &[u8],
-    third: &[u8],
-    over: &[u8],
-) -> Bench {
-    let n = given(first, second, third, over);
-    let c = named(verb, first);
+    book: &mut [u8],
+    tape: &[u8],
+    n: u8,
+) -> Next {
+    let c = named(tape);
     if let Command::Other = c {
-        return pond_words::follow(b, memory, store, verb, n, first, second, third);
+        return pond_words::follow(b, memory, store, book, tape, n);
     }
-    of_files(c, n, first, second, third);
-    b
+    Next {
+        bench: b,
+        outcome: of_files(c, tape, n),
+    }
 }
 
-fn of_files(c: Command, n: u8, first: &[u8], second: &[u8], third: &[u8]) {
+pub fn of_files(c: Command, tape: &[u8], n: u8) -> Outcome {
     match c {
-        Command::Help => {
-            help(n);
-        }
-        Command::Check => {
-            check(n, first);
-        }
-        Command::List => {
-            list(n, first);
-        }
-        Command::Run => {
-            pond_words::run(n, first, second, third);
-        }
-        Command::Demo => {
-            demo(n);
-        }
-        Command::Quit => {
-            quit(n);
-        }
-        Command::Turn => {
-            turn(n, first, second);
-        }
-        Command::Other => {}
+        Command::Help => help(n, row(tape, 1)),
+        Command::Check => check(n, row(tape, 1)),
+        Command::List => list(n, row(tape, 1)),
+        Command::Run => pond_words::run(tape, n),
+        Command::Demo => demo(n),
+        Command::Quit => quit(n),
+        Command::Keep => keep(n, row(tape, 1), row(tape, 2)),
+        Command::Version => version(n),
+        Command::Turn => turn(n, row(tape, 1), row(tape, 2)),
+        Command::Other => Outcome::Done,
     }
 }
 
-fn help(n: u8) {
-    if n == 0 {
-        help::help();
-    } else {
-        expected(b"help");
+fn help(n: u8, command: &[u8]) -> Outcome {
+    if 1 < n {
+        return expected(b"help [COMMAND]");
     }
+    if pond_typed::help(command) {
+        return Outcome::Done;
+    }
+    pond_words::unknown(command)
 }
 
-fn check(n: u8, first: &[u8]) {
+fn version(n: u8) -> Outcome {
+    if n != 0 {
+        return expected(b"--version");
+    }
+    pond_say::text(b"pond 8, the console of Aithomedu\n");
+    Outcome::Done
+}
+
+fn check(n: u8, file: &[u8]) -> Outcome {
     if n == 1 {
-        pond_segments::check(first);
-    } else {
-        expected(b"check FILE");
+        return pond_segments::check(file);
     }
+    expected(b"check FILE")
 }
 
-fn list(n: u8, first: &[u8]) {
+fn list(n: u8, file: &[u8]) -> Outcome {
     if n == 1 {
-        pond_segments::list(first);
-    } else {
-        expected(b"list FILE");
+        return pond_segments::list(file);
     }
+    expected(b"list FILE")
 }
 
-fn demo(n: u8) {
-    if n == 0 {
-        pond_run::demo();
-    } else {
-        expected(b"demo");
+fn demo(n: u8) -> Outcome {
+    if n != 0 {
+        return expected(b"demo");
     }
+    pond_demo::demo();
+    Outcome::Done
 }
 
 // Lines end at this word; as the program's only argument it does nothing.
-fn quit(n: u8) {
+fn quit(n: u8) -> Outcome {
     if n != 0 {
-        expected(b"quit");
+        return expected(b"quit or exit, and nothing more");
     }
+    Outcome::Done
 }
 
-fn turn(n: u8, first: &[u8], second: &[u8]) {
+fn turn(n: u8, file: &[u8], out: &[u8]) -> Outcome {
     if n == 2 {
-        pond_segments::turn(first, second);
-    } else if n == 0 {
-        expected(b"turn SESSION STEPS or turn FILE OUT");
-    } else {
-        expected(b"turn FILE OUT");
+        return pond_segments::turn(file, out);
     }
+    if n < 2 {
+        return expected(b"turn SESSION STEPS or turn FILE OUT");
+    }
+    expected(b"turn FILE OUT")
+}
+
+// What a script goes on after. The console itself keeps it.
+fn keep(n: u8, going: &[u8], always: &[u8]) -> Outcome {
+    if same(going, b"going") {
+        if n == 1 {
+            pond_say::text(b"from here on a report's fault does not stop this script\n");
+            return Outcome::Done;
+        }
+        if bounds::both(n == 2, same(always, b"always")) {
+            pond_say::text(b"from here on no failure stops this script\n");
+            return Outcome::Done;
+        }
+    }
+    expected(b"keep going or keep going always")
 }

@@ -2,71 +2,64 @@
 // Above it: the program. Below it: words and the commands.
 ghost use Prim.Native.Nat.{_-_, _≤_};
 use crate::commands;
+use crate::commands::Command;
+use crate::stops;
+use crate::stops::After;
 use libc::STDIN_FILENO;
+use pond_bench::Next;
+use pond_rows::row;
+use pond_say::Outcome;
+use pond_typed::Cut;
+use pond_typed::is_command;
 use sound::Bench;
 use text::front;
-use text::word;
 
-// The program's arguments are one command. An argument is one word, whatever bytes it holds.
+// The program's arguments are one command.
 pub fn arguments() {
-    let mut room = io::buffer();
-    let n = os::arg(1, &mut room);
-    if os::errno() == libc::ENAMETOOLONG {
-        too_long(1);
-        return;
-    }
-    first_argument(front(&room, n));
+    let mut tape = pond_rows::tape();
+    let c = pond_typed::arguments(&mut tape);
+    let o = asked(&tape, c);
+    pond_say::leave(pond_say::status(o));
 }
 
-fn first_argument(verb: &[u8]) {
-    let mut room = io::buffer();
-    let n = os::arg(2, &mut room);
-    if os::errno() == libc::ENAMETOOLONG {
-        too_long(2);
-        return;
+fn asked(tape: &[u8], c: Cut) -> Outcome {
+    if c.unclosed {
+        return Outcome::Typing;
     }
-    second_argument(verb, front(&room, n));
+    let w = pond_typed::wrong(c);
+    if !pond_say::went(w) {
+        return w;
+    }
+    let d = commands::named(tape);
+    if let Command::Other = d {
+        return no_bench(tape);
+    }
+    commands::of_files(d, tape, behind(c.words))
 }
 
-fn second_argument(verb: &[u8], first: &[u8]) {
-    let mut room = io::buffer();
-    let n = os::arg(3, &mut room);
-    if os::errno() == libc::ENAMETOOLONG {
-        too_long(3);
-        return;
+// A bench is the console's. A command on it that is given in the shell would find a new one, and leave nothing.
+fn no_bench(tape: &[u8]) -> Outcome {
+    let verb = row(tape, 0);
+    if pond_words::is_deed(verb) {
+        pond_say::text(
+            b"cannot follow that here: a bench lasts as long as the console. Start the console with no words and type ",
+        );
+        pond_say::path(verb);
+        pond_say::text(b" there, or put the lines into a file: pond < FILE\n");
+        return Outcome::Typing;
     }
-    third_argument(verb, first, front(&room, n));
+    pond_words::unknown(verb)
 }
 
-fn third_argument(verb: &[u8], first: &[u8], second: &[u8]) {
-    let mut room = io::buffer();
-    let n = os::arg(4, &mut room);
-    if os::errno() == libc::ENAMETOOLONG {
-        too_long(4);
-        return;
+// How many words stand behind the verb, and 200 where there are more.
+fn behind(words: usize) -> u8 {
+    if words == 0 {
+        return 0;
     }
-    let third = front(&room, n);
-    if os::arg_count() > 5 {
-        once(verb, first, second, third, b"more");
-    } else {
-        once(verb, first, second, third, b"");
+    if 200 < words {
+        return 200;
     }
-}
-
-// One command, on the bench that the console begins with.
-fn once(verb: &[u8], first: &[u8], second: &[u8], third: &[u8], over: &[u8]) {
-    let mut memory = words();
-    let mut store = bytes();
-    commands::follow(
-        first_bench(),
-        &mut memory,
-        &mut store,
-        verb,
-        first,
-        second,
-        third,
-        over,
-    );
+    (words - 1) as u8
 }
 
 // The memory that every bench is lent, as much of it as it has words.
@@ -85,47 +78,37 @@ fn first_bench() -> Bench {
     out.bench
 }
 
-fn too_long(k: u64) {
-    pond_say::text(b"cannot follow that: word ");
-    pond_say::number(k);
-    pond_say::text(b" is longer than 4096 bytes\n");
-}
-
-// A line of standard input: how many of its bytes were kept, whether it had more, and whether
-// another line may follow.
-struct Line {
-    count: usize,
-    over: bool,
-    more: bool,
-}
-
-// The bench after a line, and whether another line may follow.
-struct After {
-    bench: Bench,
-    more: bool,
-}
-
-// The lines of standard input, on one bench after another.
+// The lines of standard input, on one bench after another. A person's failures are no failures of the console.
 pub fn script() {
     let mut memory = words();
     let mut store = bytes();
+    let mut book = pond_rows::book();
     let typed = libc::isatty(STDIN_FILENO) == 1;
-    lines(first_bench(), &mut memory, &mut store, typed);
+    if typed {
+        pond_typed::welcome();
+    }
+    let status = lines(first_bench(), &mut memory, &mut store, &mut book, typed);
     if typed {
         pond_say::end();
     }
+    pond_say::leave(status);
 }
 
 // A proved loop has to end, and nothing says that the input does. So the loop counts its turns
-// down, from a number that no run uses up.
-fn lines(b: Bench, memory: &mut [u16], store: &mut [u8], typed: bool) {
+// down, from a number that no run uses up. The status is that of the gravest failure.
+fn lines(b: Bench, memory: &mut [u16], store: &mut [u8], book: &mut [u8], typed: bool) -> u8 {
     let mut bench = b;
+    let mut keep: u8 = 0;
+    let mut status: u8 = 0;
     let mut turns = u64::MAX;
     while turns > 0 {
-        let after = one_line(bench, memory, store, typed);
+        let after = one_line(bench, memory, store, book, typed, keep, turns);
         bench = after.bench;
+        keep = after.keep;
+        status = stops::worse(status, after.status);
         turns = fewer(turns, after.more);
     }
+    status
 }
 
 // One turn less, or none where no line can follow.
@@ -141,131 +124,81 @@ fn fewer(turns: u64, more: bool) -> u64
     turns - 1
 }
 
-// Reads a line, follows it, and answers whether another may come.
-fn one_line(b: Bench, memory: &mut [u16], store: &mut [u8], typed: bool) -> After {
+// Reads a line, follows it, and answers whether another may come. So many turns of the loop are left.
+fn one_line(
+    b: Bench,
+    memory: &mut [u16],
+    store: &mut [u8],
+    book: &mut [u8],
+    typed: bool,
+    keep: u8,
+    left: u64,
+) -> After {
     if typed {
         pond_say::text(b"> ");
     }
     let mut room = io::buffer();
-    let line = read_line(STDIN_FILENO, &mut room);
+    let line = pond_typed::read_line(&mut room);
     let kept = front(&room, line.count);
-    if line.over {
-        return skipped(b, line.more);
+    if typed {
+        pond_say::forget();
+    } else {
+        stops::echo(kept, line.more, line.over);
     }
-    if !typed {
-        echo(kept, line.more);
+    let mut tape = pond_rows::tape();
+    let words = tape_of(kept, &mut tape);
+    let next = obeyed(b, memory, store, book, &tape, words, line.over, line.failed);
+    let more = bounds::both(line.more, !stops::quits(&tape, words));
+    stops::settled(next, typed, stops::kept_on(&tape, words, keep), left, more)
+}
+
+// How many words the command has, and 0 where the line is none or its words cannot be followed, of which it has been said; then the first is left
+// out, so that the tape is no command.
+fn tape_of(kept: &[u8], tape: &mut [u8]) -> usize {
+    if !is_command(kept) {
+        return 0;
     }
-    let bench = obey(b, memory, store, kept);
-    After {
-        bench,
-        more: bounds::both(line.more, !quits(kept)),
+    let c = pond_typed::words_of(kept, tape);
+    let w = pond_typed::wrong(c);
+    if pond_say::went(w) {
+        return c.words;
     }
+    1000
+}
+
+fn obeyed(
+    b: Bench,
+    memory: &mut [u16],
+    store: &mut [u8],
+    book: &mut [u8],
+    tape: &[u8],
+    words: usize,
+    over: bool,
+    failed: bool,
+) -> Next {
+    if over {
+        return skipped(b);
+    }
+    if failed {
+        return kept(b, Outcome::File);
+    }
+    if words == 0 {
+        return kept(b, Outcome::Done);
+    }
+    if words == 1000 {
+        return kept(b, Outcome::Typing);
+    }
+    commands::follow(b, memory, store, book, tape, behind(words))
+}
+
+fn kept(bench: Bench, outcome: Outcome) -> Next {
+    Next { bench, outcome }
 }
 
 // A line that does not fit is not followed at all: a command that is cut short is another command.
-fn skipped(b: Bench, more: bool) -> After {
+fn skipped(b: Bench) -> Next {
     pond_say::text(
         b"cannot follow that: the line has more than 4096 bytes, and all of it is skipped\n",
     );
-    After { bench: b, more }
-}
-
-// Whether the line is the word `quit` and nothing more.
-fn quits(kept: &[u8]) -> bool {
-    let over = word(kept, 1);
-    bounds::both(text::same(word(kept, 0), b"quit"), over.len() == 0)
-}
-
-// What was read and not typed is shown before its answer, as a terminal would show it. The input's
-// end is no line.
-fn echo(kept: &[u8], more: bool) {
-    if is_command(kept) {
-        pond_say::text(b"> ");
-    } else if kept.len() == 0 {
-        if !more {
-            return;
-        }
-    }
-    pond_say::path(kept);
-    pond_say::end();
-}
-
-// A line without words, or one that begins with #, is no command.
-fn is_command(kept: &[u8]) -> bool {
-    let verb = word(kept, 0);
-    if verb.len() == 0 {
-        return false;
-    }
-    verb[0] != b'#'
-}
-
-fn obey(b: Bench, memory: &mut [u16], store: &mut [u8], kept: &[u8]) -> Bench {
-    if is_command(kept) {
-        return commands::follow(
-            b,
-            memory,
-            store,
-            word(kept, 0),
-            word(kept, 1),
-            word(kept, 2),
-            word(kept, 3),
-            word(kept, 4),
-        );
-    }
-    b
-}
-
-// A byte of the input. Where none is there, the byte is a line's end if the input has ended, and 0
-// if it cannot be read.
-struct Taken {
-    there: bool,
-    byte: u8,
-}
-
-fn next(fd: i32) -> Taken {
-    let mut one = [b'\n'; 1];
-    let got = pond_files::read_some(fd, &mut one);
-    let there = got.count == 1;
-    let error = got.error;
-    if error != 0 {
-        pond_files::cannot(b"cannot read ", b"standard input", error);
-        return Taken { there, byte: 0 };
-    }
-    let byte = one[0];
-    Taken { there, byte }
-}
-
-// Reads to the end of the line, and keeps as much as room holds, or nothing of a line that cannot be
-// read to its end. It reads byte by byte, so that nothing after the line is taken.
-fn read_line(fd: i32, room: &mut [u8]) -> Line {
-    let mut n = 0;
-    let mut over = false;
-    let mut turns = u64::MAX;
-    while turns > 0 {
-        turns -= 1;
-        let got = next(fd);
-        let byte = got.byte;
-        let there = got.there;
-        if byte == b'\n' {
-            return Line {
-                count: n,
-                over,
-                more: there,
-            };
-        }
-        if !there {
-            break;
-        }
-        if n < room.len() {
-            room[n] = byte;
-            n += 1;
-        } else {
-            over = true;
-        }
-    }
-    Line {
-        count: 0,
-        over: false,
-        more: false,
-    }
+    kept(b, Outcome::Typing)
 }

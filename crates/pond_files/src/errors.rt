@@ -10,6 +10,15 @@ pub fn cannot(what: &[u8], path: &[u8], error: i32) {
     pond_say::end();
 }
 
+// The same, of a name that nothing is written to.
+pub fn cannot_be(path: &[u8], why: &[u8]) {
+    pond_say::text(b"cannot write ");
+    pond_say::path(path);
+    pond_say::text(b": ");
+    pond_say::text(why);
+    pond_say::end();
+}
+
 fn why(error: i32) {
     match error {
         libc::EPERM | libc::EACCES => {
@@ -37,6 +46,12 @@ fn why(error: i32) {
         }
         libc::ENOSPC => {
             pond_say::text(b"the disk is full");
+        }
+        libc::EFBIG => {
+            pond_say::text(b"it would be larger than a file may be");
+        }
+        libc::EIO => {
+            pond_say::text(b"the disk or the device failed");
         }
         libc::EROFS => {
             pond_say::text(b"the disk is read-only");

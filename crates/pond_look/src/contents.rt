@@ -1,7 +1,8 @@
-// `words SESSION [FROM [COUNT]]` and `shared [FROM [COUNT]]`: one line a word, and one line for three or more zeros in a row.
+// `words SESSION [FROM [COUNT]]` and `shared [FROM [COUNT]]`: a column for each form of a word, one line a word, and one line for three or more zeros in a row.
 // Above it: the console, and run. Below it: the bench's numbers.
 use crate::refusals;
 use crate::told;
+use pond_say::Outcome;
 use sound::Bench;
 
 // The words that are asked for: all, those from one on, or so many from one on.
@@ -19,38 +20,41 @@ struct Stretch {
 }
 
 // The session's words by its own addresses, which begin at 1: 0 is NIL.
-pub fn words(b: Bench, memory: &[u16], session: u64, wanted: Wanted) {
+pub fn words(b: Bench, memory: &[u16], book: &[u8], session: u64, wanted: Wanted) -> Outcome {
     let i = session as usize;
     let se = told::record(b, i);
     if !se.used {
-        refusals::of_session(12, 0, session);
-        return;
+        return refusals::of_session(12, 0, session);
     }
     let own = told::region(memory, se.base, se.len);
-    if !shown(own, 1, wanted) {
-        cannot(wanted);
-        pond_say::text(b"session ");
-        pond_say::number(i as u64);
-        pond_say::text(b" has ");
-        told::span(1, told::less(own.len(), 1));
-        pond_say::end();
+    if shown(own, 1, wanted) {
+        return Outcome::Done;
     }
+    cannot(wanted);
+    told::session(book, i);
+    pond_say::text(b" has ");
+    told::span(1, told::less(own.len(), 1));
+    pond_say::end();
+    Outcome::Typing
 }
 
-pub fn shared(b: Bench, memory: &[u16], wanted: Wanted) {
+pub fn shared(b: Bench, memory: &[u16], wanted: Wanted) -> Outcome {
     let all = told::region(memory, 0, b.s);
-    if !shown(all, 0, wanted) {
-        cannot_share(wanted);
-        shared_are(all.len());
+    if shown(all, 0, wanted) {
+        return Outcome::Done;
     }
+    let outcome = cannot_share(wanted);
+    shared_are(all.len());
+    outcome
 }
 
 // All of no shared words can be shown: there are none.
-fn cannot_share(wanted: Wanted) {
+fn cannot_share(wanted: Wanted) -> Outcome {
     if let Wanted::All = wanted {
-        return;
+        return Outcome::Done;
     }
     cannot(wanted);
+    Outcome::Typing
 }
 
 fn shared_are(n: usize) {
@@ -100,6 +104,7 @@ fn shown(all: &[u16], low: usize, wanted: Wanted) -> bool {
     if end > all.len() {
         return false;
     }
+    pond_say::text(b"       word  unsigned  signed   hex\n");
     lines(&all[from..end], from);
     true
 }
@@ -164,30 +169,24 @@ fn zeros(part: &[u16], at: usize) -> usize {
     i
 }
 
-// `  6 to 93: 0`
+// `6-93` and the forms of 0.
 fn run(from: usize, count: usize) {
-    pond_say::text(b"  ");
-    pond_say::number(from as u64);
-    told::to(told::last(from, count));
-    pond_say::text(b": 0\n");
+    pond_say::range_padded(from as u64, told::last(from, count) as u64, 11);
+    forms(0);
 }
 
-// `  94: 65529, signed -7, hex fff9`
+// `94`, and 65529 as `65529      -7  FFF9`.
 fn one(part: &[u16], at: usize, name: usize) {
     if at < part.len() {
-        let w = part[at];
-        pond_say::text(b"  ");
-        pond_say::number(name as u64);
-        pond_say::text(b": ");
-        forms(w);
+        pond_say::padded(name as u64, 11);
+        forms(part[at]);
     }
 }
 
 fn forms(w: u16) {
-    pond_say::number(w as u64);
-    pond_say::text(b", signed ");
-    pond_say::signed(w);
-    pond_say::text(b", hex ");
+    pond_say::padded(w as u64, 10);
+    pond_say::signed_padded(w, 8);
+    pond_say::blanks(2);
     pond_say::hex(w as u64, 4);
     pond_say::end();
 }

@@ -3,6 +3,7 @@
 use crate::told;
 use machine::Kind;
 use plan::Regs;
+use pond_say::Outcome;
 use sound::Bench;
 use sound::Session;
 
@@ -22,14 +23,16 @@ pub fn instruction(b: Bench, store: &[u8], se: Session) {
 }
 
 // The last line: `fault 6 at byte 58: ` and why.
-pub fn reason(b: Bench, memory: &[u16], store: &[u8], se: Session) {
+pub fn reason(b: Bench, memory: &[u16], store: &[u8], se: Session) -> Outcome {
     let cpu = se.cpu;
     let kind = cpu.kind;
     if let Kind::Faulted(number, place) = kind {
         let seg = code(b, store, se.slot);
         let region = told::region(memory, se.base, se.len);
         line(seg, region, b.s, cpu.regs, number, place);
+        return Outcome::Fault;
     }
+    Outcome::Done
 }
 
 fn line(seg: &[u8], region: &[u16], shared: usize, regs: Regs, number: u8, place: usize) {

@@ -4,7 +4,7 @@ use crate::told;
 use sound::Bench;
 use sound::Session;
 
-pub fn map(b: Bench) {
+pub fn map(b: Bench, book: &[u8]) {
     if b.n == 0 {
         pond_say::text(b"the memory has no words\n");
         return;
@@ -13,13 +13,13 @@ pub fn map(b: Bench) {
         told::span(0, b.s);
         pond_say::text(b": shared\n");
     }
-    lines(b, b.s, b.n);
+    lines(b, book, b.s, b.n);
 }
 
-fn lines(b: Bench, from: usize, n: usize) {
+fn lines(b: Bench, book: &[u8], from: usize, n: usize) {
     let mut at = from;
     while at < n {
-        let next = line(b, at, n);
+        let next = line(b, book, at, n);
         if next <= at {
             break;
         }
@@ -28,25 +28,28 @@ fn lines(b: Bench, from: usize, n: usize) {
 }
 
 // The line that begins with word at; the word after it.
-fn line(b: Bench, at: usize, n: usize) -> usize {
+fn line(b: Bench, book: &[u8], at: usize, n: usize) -> usize {
     let sessions = b.sessions;
     let i = begins(sessions, at);
     if i < 16 {
-        return owned(b, i);
+        return owned(b, book, i);
     }
     let next = nearest(sessions, at, n);
     free(at, next);
     next
 }
 
-fn owned(b: Bench, i: usize) -> usize {
+// `words 8 to 39: session 0 north, finished, from north.seg`
+fn owned(b: Bench, book: &[u8], i: usize) -> usize {
     let se = told::record(b, i);
     told::span(se.base, se.len);
     pond_say::text(b": ");
-    told::session_of(i);
+    told::session(book, i);
+    pond_say::text(b", ");
     let cpu = se.cpu;
     let kind = cpu.kind;
     told::kind(kind);
+    told::from(book, se.slot);
     pond_say::end();
     told::past(se.base, se.len)
 }

@@ -1,11 +1,11 @@
 // Refusal 12 with what exactly was wrong: which slot, which session. Every other refusal is said by its rule.
 // Above it: the commands on a bench. Below it: the rules, and how the console speaks.
+use pond_say::Outcome;
 
 // A refused command on session i.
-pub fn of_session(number: u8, place: u16, i: u64) {
+pub fn of_session(number: u8, place: u16, i: u64) -> Outcome {
     if number != 12 {
-        pond_rules::refused(number, place);
-        return;
+        return pond_rules::refused(number, place);
     }
     begun(i, b"session ");
     if 15 < i {
@@ -13,13 +13,13 @@ pub fn of_session(number: u8, place: u16, i: u64) {
     } else {
         pond_say::text(b" is not open\n");
     }
+    Outcome::Refused
 }
 
 // A refused command on slot i; what is wrong with a slot that is there.
-pub fn of_slot(number: u8, place: u16, i: u64, wrong: &[u8]) {
+pub fn of_slot(number: u8, place: u16, i: u64, wrong: &[u8]) -> Outcome {
     if number != 12 {
-        pond_rules::refused(number, place);
-        return;
+        return pond_rules::refused(number, place);
     }
     begun(i, b"slot ");
     if 15 < i {
@@ -27,6 +27,7 @@ pub fn of_slot(number: u8, place: u16, i: u64, wrong: &[u8]) {
     } else {
         pond_say::text(wrong);
     }
+    Outcome::Refused
 }
 
 fn begun(i: u64, what: &[u8]) {

@@ -17,18 +17,31 @@ pub fn counted(n: u64, what: &[u8]) {
     }
 }
 
-// `session 0: `
-pub fn session(i: usize) {
+// `session 0`, or `session 0 north` where it has a name.
+pub fn session(book: &[u8], i: usize) {
     pond_say::text(b"session ");
     pond_say::number(i as u64);
-    pond_say::text(b": ");
+    named(pond_rows::session_name(book, i));
 }
 
-// `session 0, `
-pub fn session_of(i: usize) {
-    pond_say::text(b"session ");
+// `slot 0`, or `slot 0 north` where it has a name.
+pub fn slot_of(book: &[u8], i: usize) {
+    pond_say::text(b"slot ");
     pond_say::number(i as u64);
-    pond_say::text(b", ");
+    named(pond_rows::slot_name(book, i));
+}
+
+// `, from north.seg`: the file of a slot.
+pub fn from(book: &[u8], slot: usize) {
+    pond_say::text(b", from ");
+    pond_say::path(pond_rows::file_of(book, slot));
+}
+
+fn named(name: &[u8]) {
+    if name.len() > 0 {
+        pond_say::blanks(1);
+        pond_say::path(name);
+    }
 }
 
 // `words 8 to 107`

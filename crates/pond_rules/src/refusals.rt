@@ -3,9 +3,10 @@
 ghost use mathlib.Core.Path.{_≡_};
 ghost use mathlib.Core.Bool.{Bool, _&&_};
 ghost use lib.Dec.{leb};
+use pond_say::Outcome;
 
 // The last line of a command that was refused: `refused N at P: rule`.
-pub fn refused(number: u8, place: u16) {
+pub fn refused(number: u8, place: u16) -> Outcome {
     pond_say::text(b"refused ");
     pond_say::number(number as u64);
     pond_say::text(b" at ");
@@ -16,6 +17,7 @@ pub fn refused(number: u8, place: u16) {
     pond_say::text(b": ");
     rule(number);
     pond_say::end();
+    Outcome::Refused
 }
 
 // The place of 6 to 8 is the routine's number.

@@ -1,11 +1,14 @@
-// `run FILE [WORDS] [STEPS]`: a segment on a bench of its own, to its end; how it ended, and its words.
+// `run FILE [WORDS [STEPS]] [with ARCHIVE]`: a segment on a bench of its own, to its end; how it ended, and its words.
 // Above it: the console. Below it: the other commands, as they are.
+use pond_bench::fills;
 use pond_bench::loads;
 use pond_bench::turns;
 use pond_look::Wanted;
 use pond_look::faults;
 use pond_look::told;
+use pond_say::Outcome;
 use sound::Bench;
+use sound::Session;
 use text::front;
 
 // The words and the steps of a run of which nothing else is said.
@@ -13,7 +16,7 @@ const WORDS: usize = 1000;
 
 const STEPS: u64 = 1000000000;
 
-// No session has more words.
+// No session has more words, and no bench more shared ones.
 const MOST: usize = 32768;
 
 // What is said of a run: nothing, its words, or its words and its steps.
@@ -23,29 +26,38 @@ pub enum Size {
     Both(u64, u64),
 }
 
-pub fn run(file: &[u8], size: Size) {
+// An archive is a file of shared words; where its name has no bytes, there are none.
+pub fn run(file: &[u8], size: Size, archive: &[u8]) -> Outcome {
     let mut store = io::large_buffer();
     let got = pond_files::read(file, &mut store);
-    let n = got.count;
-    let error = got.error;
-    if error != 0 {
-        pond_files::cannot(b"cannot read ", file, error);
-        return;
+    if !got.ok {
+        return Outcome::File;
     }
-    sized(file, front(&store, n), size);
+    with(file, front(&store, got.count), size, archive)
 }
 
-fn sized(file: &[u8], seg: &[u8], size: Size) {
+// One byte more than the most shared words take, so that a longer file is told from it.
+fn space() -> [u8; 65538] {
+    [0u8; 65538]
+}
+
+fn with(file: &[u8], seg: &[u8], size: Size, archive: &[u8]) -> Outcome {
+    let mut room = space();
+    if archive.len() == 0 {
+        return sized(file, seg, size, archive, b"");
+    }
+    let got = pond_files::read(archive, &mut room);
+    if !got.ok {
+        return Outcome::File;
+    }
+    sized(file, seg, size, archive, front(&room, got.count))
+}
+
+fn sized(file: &[u8], seg: &[u8], size: Size, archive: &[u8], bytes: &[u8]) -> Outcome {
     match size {
-        Size::Usual => {
-            alone(file, seg, usual(seg), STEPS);
-        }
-        Size::Words(words) => {
-            alone(file, seg, words as usize, STEPS);
-        }
-        Size::Both(words, steps) => {
-            alone(file, seg, words as usize, steps);
-        }
+        Size::Usual => alone(file, seg, usual(seg), STEPS, archive, bytes),
+        Size::Words(words) => alone(file, seg, words as usize, STEPS, archive, bytes),
+        Size::Both(words, steps) => alone(file, seg, words as usize, steps, archive, bytes),
     }
 }
 
@@ -66,50 +78,130 @@ fn at_most(words: usize) -> usize {
     words
 }
 
-fn memory_of_most() -> [u16; 32768] {
-    [0u16; 32768]
+// Every word that a bench of one session and its archive can have.
+fn memory_of_most() -> [u16; 65536] {
+    [0u16; 65536]
 }
 
-// A bench of so many words, as far as a session can have them: opening refuses more.
-fn alone(file: &[u8], seg: &[u8], words: usize, steps: u64) {
+// A bench of the archive's words and so many more, as far as a session can have them: opening refuses more.
+fn alone(
+    file: &[u8],
+    seg: &[u8],
+    words: usize,
+    steps: u64,
+    archive: &[u8],
+    bytes: &[u8],
+) -> Outcome {
     let mut memory = memory_of_most();
-    let n = at_most(words);
-    let out = bench::new_bench(n, 0);
-    lent(out.bench, &mut memory, n, file, seg, words, steps);
-}
-
-fn lent(b: Bench, memory: &mut [u16], n: usize, file: &[u8], seg: &[u8], words: usize, steps: u64) {
-    if n <= memory.len() {
-        loaded(b, &mut memory[0..n], file, seg, words, steps);
+    let s = at_most(bytes.len() / 2);
+    let n = told::past(s, at_most(words));
+    let out = bench::new_bench(n, s);
+    if n <= 65536 {
+        return filled(
+            out.bench,
+            &mut memory[0..n],
+            file,
+            seg,
+            words,
+            steps,
+            archive,
+            bytes,
+        );
     }
+    Outcome::Done
 }
 
-fn loaded(b: Bench, memory: &mut [u16], file: &[u8], seg: &[u8], words: usize, steps: u64) {
-    let after = loads::asked(b, memory, seg, file, 0, 0, seg.len());
-    let sl = told::slot(after, 0);
-    if sl.loaded {
-        opened(after, memory, seg, words, steps);
+fn filled(
+    b: Bench,
+    memory: &mut [u16],
+    file: &[u8],
+    seg: &[u8],
+    words: usize,
+    steps: u64,
+    archive: &[u8],
+    bytes: &[u8],
+) -> Outcome {
+    let o = poured(b, memory, archive, bytes);
+    if pond_say::went(o) {
+        return booked(b, memory, file, seg, words, steps);
     }
+    o
 }
 
-fn opened(b: Bench, memory: &mut [u16], seg: &[u8], words: usize, steps: u64) {
-    let after = pond_bench::open(b, memory, seg, 0, words as u64);
-    let se = told::record(after, 0);
-    if se.used {
-        went(after, memory, seg, steps);
+fn poured(b: Bench, memory: &mut [u16], archive: &[u8], bytes: &[u8]) -> Outcome {
+    if archive.len() > 0 {
+        return fills::from_bytes(b, memory, archive, bytes);
     }
+    Outcome::Done
 }
 
-fn went(b: Bench, memory: &mut [u16], seg: &[u8], steps: u64) {
+fn booked(
+    b: Bench,
+    memory: &mut [u16],
+    file: &[u8],
+    seg: &[u8],
+    words: usize,
+    steps: u64,
+) -> Outcome {
+    let mut book = pond_rows::book();
+    loaded(b, memory, &mut book, file, seg, words, steps)
+}
+
+fn loaded(
+    b: Bench,
+    memory: &mut [u16],
+    book: &mut [u8],
+    file: &[u8],
+    seg: &[u8],
+    words: usize,
+    steps: u64,
+) -> Outcome {
+    let after = loads::asked(b, memory, seg, book, b"", file, 0, 0, seg.len());
+    let o = after.outcome;
+    if pond_say::went(o) {
+        return opened(after.bench, memory, book, seg, words, steps);
+    }
+    o
+}
+
+fn opened(
+    b: Bench,
+    memory: &mut [u16],
+    book: &mut [u8],
+    seg: &[u8],
+    words: usize,
+    steps: u64,
+) -> Outcome {
+    let after = pond_bench::open(b, memory, seg, book, 0, words as u64, b"");
+    let o = after.outcome;
+    if pond_say::went(o) {
+        return went(after.bench, memory, book, seg, steps);
+    }
+    o
+}
+
+fn went(b: Bench, memory: &mut [u16], book: &[u8], seg: &[u8], steps: u64) -> Outcome {
     let all = turns::all(b, memory, seg, 0, steps);
-    ended(all.bench, memory, seg, all.steps);
+    ended(all.bench, memory, book, seg, all.steps)
 }
 
 // The fault's line is the last one, after the words.
-fn ended(b: Bench, memory: &[u16], seg: &[u8], steps: u64) {
+fn ended(b: Bench, memory: &[u16], book: &[u8], seg: &[u8], steps: u64) -> Outcome {
     let se = told::record(b, 0);
-    turns::ended(0, steps, se);
+    turns::ended(book, 0, steps, se);
     faults::instruction(b, seg, se);
-    pond_look::words(b, memory, 0, Wanted::All);
-    faults::reason(b, memory, seg, se);
+    pond_look::words(b, memory, book, 0, Wanted::All);
+    let o = faults::reason(b, memory, seg, se);
+    turns::stopped(finished(o, se))
+}
+
+// A report that is still ready has done all its steps, and has not finished.
+fn finished(o: Outcome, se: Session) -> Outcome {
+    let cpu = se.cpu;
+    let kind = cpu.kind;
+    if let machine::Kind::Ready = kind {
+        pond_say::text(b"not finished: all its steps are done; run it with more\n");
+        return Outcome::Fault;
+    }
+    o
 }

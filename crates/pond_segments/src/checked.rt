@@ -1,5 +1,6 @@
 // `check FILE`: the header numbers and routines of a segment, or why it is refused.
 // Above it: the console. Below it: `segment`, which judges, and how the console speaks.
+use pond_say::Outcome;
 use segment::Segment;
 use segment::Verdict;
 use text::front;
@@ -7,28 +8,21 @@ use text::front;
 // A segment has at most 32,767 words.
 const LONGEST: usize = 65534;
 
-pub fn check(file: &[u8]) {
+pub fn check(file: &[u8]) -> Outcome {
     let mut room = io::large_buffer();
     let got = pond_files::read(file, &mut room);
-    let n = got.count;
-    let error = got.error;
-    if error != 0 {
-        pond_files::cannot(b"cannot read ", file, error);
-        return;
+    if !got.ok {
+        return Outcome::File;
     }
-    report(file, front(&room, n));
+    report(file, front(&room, got.count))
 }
 
-fn report(file: &[u8], seg: &[u8]) {
+fn report(file: &[u8], seg: &[u8]) -> Outcome {
     size(file, seg.len());
     let v = checks::judge(seg);
     match v {
-        Verdict::Accepted => {
-            passed(seg);
-        }
-        Verdict::Refused { number, place } => {
-            pond_rules::refused(number, place);
-        }
+        Verdict::Accepted => passed(seg),
+        Verdict::Refused { number, place } => pond_rules::refused(number, place),
     }
 }
 
@@ -57,11 +51,12 @@ fn measure(bytes: usize) {
     }
 }
 
-fn passed(seg: &[u8]) {
+fn passed(seg: &[u8]) -> Outcome {
     let h = segment::head(seg);
     name(seg);
     header(h);
     table(seg, h.count);
+    Outcome::Done
 }
 
 fn name(seg: &[u8]) {

@@ -1,43 +1,38 @@
 // `turn FILE OUT`: a segment with the other byte sex.
 // Above it: the console. Below it: `turning`, which turns or refuses, and how the console speaks.
 use crate::checked;
+use pond_say::Outcome;
 use segment::Verdict;
 use text::front;
 
-pub fn turn(file: &[u8], out: &[u8]) {
+pub fn turn(file: &[u8], out: &[u8]) -> Outcome {
     let mut room = io::large_buffer();
     let got = pond_files::read(file, &mut room);
-    let n = got.count;
-    let error = got.error;
-    if error != 0 {
-        pond_files::cannot(b"cannot read ", file, error);
-        return;
+    if !got.ok {
+        return Outcome::File;
     }
-    turned(file, front(&room, n), out);
+    turned(file, front(&room, got.count), out)
 }
 
-fn turned(file: &[u8], seg: &[u8], out: &[u8]) {
+fn turned(file: &[u8], seg: &[u8], out: &[u8]) -> Outcome {
     let mut room = io::large_buffer();
     let v = turning::turn(seg, &mut room);
     match v {
-        Verdict::Accepted => {
-            written(front(&room, seg.len()), out);
-        }
+        Verdict::Accepted => written(front(&room, seg.len()), out),
         Verdict::Refused { number, place } => {
             checked::size(file, seg.len());
-            pond_rules::refused(number, place);
+            pond_rules::refused(number, place)
         }
     }
 }
 
-fn written(seg: &[u8], out: &[u8]) {
-    let error = pond_files::write(out, seg);
-    if error != 0 {
-        pond_files::cannot(b"cannot write ", out, error);
-        return;
+fn written(seg: &[u8], out: &[u8]) -> Outcome {
+    if !pond_files::write(out, seg) {
+        return Outcome::File;
     }
     let h = segment::head(seg);
     told(out, seg.len(), h.least);
+    Outcome::Done
 }
 
 fn told(out: &[u8], bytes: usize, least: bool) {

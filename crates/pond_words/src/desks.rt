@@ -1,15 +1,18 @@
-// The commands on the bench by name, and the numbers among their words.
+// The commands on the bench by name, and the numbers and names among their words.
 // Above it: the console. Below it: `pond_bench`, which asks the bench.
+use crate::expects;
 use crate::expects::expected;
 use crate::expects::number;
-use crate::expects::pair;
-use crate::expects::single;
 use crate::expects::unknown;
 use crate::sizes;
+use pond_bench::Next;
+use pond_rows::row;
+use pond_say::Outcome;
 use sound::Bench;
 use text::same;
 
-pub enum Deed {
+enum Deed {
+    Bench,
     Fill,
     Load,
     Open,
@@ -18,11 +21,24 @@ pub enum Deed {
     Words,
     Shared,
     Map,
+    Slots,
     Close,
     Unknown,
 }
 
+// Whether a verb is a command on the bench.
+pub fn is_deed(verb: &[u8]) -> bool {
+    let d = named(verb);
+    match d {
+        Deed::Unknown => false,
+        _ => true,
+    }
+}
+
 fn named(verb: &[u8]) -> Deed {
+    if same(verb, b"bench") {
+        return Deed::Bench;
+    }
     if same(verb, b"fill") {
         return Deed::Fill;
     }
@@ -35,13 +51,13 @@ fn named(verb: &[u8]) -> Deed {
     if same(verb, b"turn") {
         return Deed::Turn;
     }
-    if same(verb, b"show") {
-        return Deed::Show;
-    }
     named_too(verb)
 }
 
 fn named_too(verb: &[u8]) -> Deed {
+    if same(verb, b"show") {
+        return Deed::Show;
+    }
     if same(verb, b"words") {
         return Deed::Words;
     }
@@ -51,75 +67,69 @@ fn named_too(verb: &[u8]) -> Deed {
     if same(verb, b"map") {
         return Deed::Map;
     }
+    if same(verb, b"slots") {
+        return Deed::Slots;
+    }
     if same(verb, b"close") {
         return Deed::Close;
     }
     Deed::Unknown
 }
 
-// A new bench is made over all of the memory, and every other command is lent the bench's own words.
+// The command on the tape, with n words behind its verb. A new bench is made over all of the memory, and every other command is lent the
+// bench's own words.
 pub fn follow(
     b: Bench,
     memory: &mut [u16],
     store: &mut [u8],
-    verb: &[u8],
+    book: &mut [u8],
+    tape: &[u8],
     n: u8,
-    first: &[u8],
-    second: &[u8],
-    third: &[u8],
-) -> Bench {
-    if same(verb, b"bench") {
-        return anew(b, memory, n, first, second);
+) -> Next {
+    let d = named(row(tape, 0));
+    if let Deed::Bench = d {
+        return anew(b, memory, book, tape, n);
     }
     let words = b.n;
     if words <= memory.len() {
-        return lent(
-            b,
-            &mut memory[0..words],
-            store,
-            verb,
-            n,
-            first,
-            second,
-            third,
-        );
+        return lent(d, b, &mut memory[0..words], store, book, tape, n);
     }
-    b
+    kept(b, Outcome::Done)
 }
 
-fn anew(b: Bench, memory: &mut [u16], n: u8, first: &[u8], second: &[u8]) -> Bench {
-    let p = pair(n, first, second, b"bench N S");
-    if p.ok {
-        return pond_bench::new_bench(b, memory, p.first, p.second);
+// The bench as it was.
+fn kept(bench: Bench, outcome: Outcome) -> Next {
+    Next { bench, outcome }
+}
+
+fn anew(b: Bench, memory: &mut [u16], book: &mut [u8], tape: &[u8], n: u8) -> Next {
+    let form = b"bench N S";
+    if n != 2 {
+        return kept(b, expected(form));
     }
-    b
+    let p = expects::both(row(tape, 1), row(tape, 2), form);
+    if p.ok {
+        return pond_bench::new_bench(b, memory, book, p.first, p.second);
+    }
+    kept(b, Outcome::Typing)
 }
 
 fn lent(
+    d: Deed,
     b: Bench,
     memory: &mut [u16],
     store: &mut [u8],
-    verb: &[u8],
+    book: &mut [u8],
+    tape: &[u8],
     n: u8,
-    first: &[u8],
-    second: &[u8],
-    third: &[u8],
-) -> Bench {
-    let d = named(verb);
+) -> Next {
     match d {
-        Deed::Fill => fill(b, memory, n, first),
-        Deed::Load => load(b, memory, store, n, first, second),
-        Deed::Open => open(b, memory, store, n, first, second),
-        Deed::Turn => turn(b, memory, store, n, first, second),
-        Deed::Close => close(b, memory, store, n, first),
-        Deed::Unknown => {
-            unknown(verb);
-            b
-        }
-        _ => {
-            seen(d, b, memory, store, n, first, second, third);
-            b
-        }
+        Deed::Fill => fill(b, memory, tape, n),
+        Deed::Load => load(b, memory, store, book, tape, n),
+        Deed::Open => open(b, memory, store, book, tape, n),
+        Deed::Turn => turn(b, memory, store, book, tape, n),
+        Deed::Close => close(b, memory, store, book, tape, n),
+        _ => kept(b, seen(d, b, memory, store, book, tape, n)),
     }
 }
 
@@ -129,112 +139,158 @@ fn seen(
     b: Bench,
     memory: &[u16],
     store: &[u8],
+    book: &[u8],
+    tape: &[u8],
     n: u8,
-    first: &[u8],
-    second: &[u8],
-    third: &[u8],
-) {
+) -> Outcome {
     match d {
-        Deed::Show => {
-            show(b, memory, store, n, first);
-        }
-        Deed::Words => {
-            words(b, memory, n, first, second, third);
-        }
-        Deed::Shared => {
-            shared(b, memory, n, first, second);
-        }
-        _ => {
-            map(b, n);
-        }
+        Deed::Show => show(b, memory, store, book, tape, n),
+        Deed::Words => words(b, memory, book, tape, n),
+        Deed::Shared => shared(b, memory, tape, n),
+        Deed::Map => map(b, book, n),
+        Deed::Slots => slots(b, store, book, n),
+        _ => unknown(row(tape, 0)),
     }
 }
 
-fn fill(b: Bench, memory: &mut [u16], n: u8, file: &[u8]) -> Bench {
+fn fill(b: Bench, memory: &mut [u16], tape: &[u8], n: u8) -> Next {
     if n == 1 {
-        pond_bench::fill(b, memory, file);
-    } else {
-        expected(b"fill FILE");
+        let outcome = pond_bench::fill(b, memory, row(tape, 1));
+        return kept(b, outcome);
     }
-    b
+    kept(b, expected(b"fill FILE"))
 }
 
-fn load(b: Bench, memory: &[u16], store: &mut [u8], n: u8, slot: &[u8], file: &[u8]) -> Bench {
-    let form = b"load SLOT FILE";
+// A slot that is given as a number is that slot; a name is a new one, for the lowest slot that is free.
+fn load(b: Bench, memory: &[u16], store: &mut [u8], book: &mut [u8], tape: &[u8], n: u8) -> Next {
     if n != 2 {
-        expected(form);
-        return b;
+        return kept(b, expected(b"load SLOT FILE"));
     }
-    let a = number(slot, form);
-    if a.ok {
-        return pond_bench::load(b, memory, store, a.value, file);
+    let slot = row(tape, 1);
+    if expects::is_number(slot) {
+        let a = number(slot, b"");
+        if a.ok {
+            return pond_bench::load(b, memory, store, book, a.value, b"", row(tape, 2));
+        }
+        return kept(b, Outcome::Typing);
     }
-    b
+    if expects::new_slot(book, slot) {
+        return pond_bench::load_named(b, memory, store, book, slot, row(tape, 2));
+    }
+    kept(b, Outcome::Typing)
 }
 
-fn open(b: Bench, memory: &mut [u16], store: &[u8], n: u8, first: &[u8], second: &[u8]) -> Bench {
-    let p = pair(n, first, second, b"open SLOT WORDS");
-    if p.ok {
-        return pond_bench::open(b, memory, store, p.first, p.second);
+// `open SLOT WORDS`, or `open NAME SLOT WORDS`.
+fn open(b: Bench, memory: &mut [u16], store: &[u8], book: &mut [u8], tape: &[u8], n: u8) -> Next {
+    if n == 2 {
+        return opened(b, memory, store, book, b"", row(tape, 1), row(tape, 2));
     }
-    b
+    let name = row(tape, 1);
+    if bounds::both(n == 3, !expects::is_number(name)) {
+        if expects::new_session(book, name) {
+            return opened(b, memory, store, book, name, row(tape, 2), row(tape, 3));
+        }
+        return kept(b, Outcome::Typing);
+    }
+    kept(b, expected(b"open [NAME] SLOT WORDS"))
 }
 
-fn turn(b: Bench, memory: &mut [u16], store: &[u8], n: u8, first: &[u8], second: &[u8]) -> Bench {
-    let p = pair(n, first, second, b"turn SESSION STEPS");
-    if p.ok {
-        return pond_bench::turn(b, memory, store, p.first, p.second);
+fn opened(
+    b: Bench,
+    memory: &mut [u16],
+    store: &[u8],
+    book: &mut [u8],
+    name: &[u8],
+    slot: &[u8],
+    words: &[u8],
+) -> Next {
+    let s = expects::slot(book, slot);
+    if !s.ok {
+        return kept(b, Outcome::Typing);
     }
-    b
+    let w = number(words, b"open [NAME] SLOT WORDS");
+    if !w.ok {
+        return kept(b, Outcome::Typing);
+    }
+    pond_bench::open(b, memory, store, book, s.value, w.value, name)
 }
 
-fn close(b: Bench, memory: &mut [u16], store: &[u8], n: u8, first: &[u8]) -> Bench {
-    let a = single(n, first, b"close SESSION");
-    if a.ok {
-        return pond_bench::close(b, memory, store, a.value);
+fn turn(b: Bench, memory: &mut [u16], store: &[u8], book: &[u8], tape: &[u8], n: u8) -> Next {
+    let form = b"turn SESSION STEPS";
+    if n != 2 {
+        return kept(b, expected(form));
     }
-    b
+    let steps = number(row(tape, 2), form);
+    if !steps.ok {
+        return kept(b, Outcome::Typing);
+    }
+    let s = expects::session(book, row(tape, 1));
+    if !s.ok {
+        return kept(b, Outcome::Typing);
+    }
+    pond_bench::turn(b, memory, store, book, s.value, steps.value)
 }
 
-fn show(b: Bench, memory: &[u16], store: &[u8], n: u8, first: &[u8]) {
-    let a = single(n, first, b"show SESSION");
-    if a.ok {
-        pond_bench::show(b, memory, store, a.value);
+fn close(b: Bench, memory: &mut [u16], store: &[u8], book: &mut [u8], tape: &[u8], n: u8) -> Next {
+    if n != 1 {
+        return kept(b, expected(b"close SESSION"));
     }
+    let s = expects::session(book, row(tape, 1));
+    if s.ok {
+        return pond_bench::close(b, memory, store, book, s.value);
+    }
+    kept(b, Outcome::Typing)
 }
 
-fn words(b: Bench, memory: &[u16], n: u8, first: &[u8], second: &[u8], third: &[u8]) {
+fn show(b: Bench, memory: &[u16], store: &[u8], book: &[u8], tape: &[u8], n: u8) -> Outcome {
+    if n != 1 {
+        return expected(b"show SESSION");
+    }
+    let s = expects::session(book, row(tape, 1));
+    if s.ok {
+        return pond_bench::show(b, memory, store, book, s.value);
+    }
+    Outcome::Typing
+}
+
+fn words(b: Bench, memory: &[u16], book: &[u8], tape: &[u8], n: u8) -> Outcome {
     let form = b"words SESSION [FROM [COUNT]]";
     if n == 0 {
-        expected(form);
-        return;
+        return expected(form);
     }
-    let a = number(first, form);
-    if a.ok {
-        words_of(b, memory, a.value, n - 1, second, third, form);
+    let p = sizes::part(tape, 2, n - 1, form);
+    if !p.ok {
+        return Outcome::Typing;
     }
+    let s = expects::session(book, row(tape, 1));
+    if s.ok {
+        let wanted = p.wanted;
+        return pond_bench::words(b, memory, book, s.value, wanted);
+    }
+    Outcome::Typing
 }
 
-fn words_of(b: Bench, memory: &[u16], session: u64, n: u8, from: &[u8], count: &[u8], form: &[u8]) {
-    let p = sizes::part(n, from, count, form);
+fn shared(b: Bench, memory: &[u16], tape: &[u8], n: u8) -> Outcome {
+    let p = sizes::part(tape, 1, n, b"shared [FROM [COUNT]]");
     if p.ok {
         let wanted = p.wanted;
-        pond_bench::words(b, memory, session, wanted);
+        return pond_bench::shared(b, memory, wanted);
     }
+    Outcome::Typing
 }
 
-fn shared(b: Bench, memory: &[u16], n: u8, from: &[u8], count: &[u8]) {
-    let p = sizes::part(n, from, count, b"shared [FROM [COUNT]]");
-    if p.ok {
-        let wanted = p.wanted;
-        pond_bench::shared(b, memory, wanted);
+fn map(b: Bench, book: &[u8], n: u8) -> Outcome {
+    if n != 0 {
+        return expected(b"map");
     }
+    pond_bench::map(b, book);
+    Outcome::Done
 }
 
-fn map(b: Bench, n: u8) {
-    if n == 0 {
-        pond_bench::map(b);
-    } else {
-        expected(b"map");
+fn slots(b: Bench, store: &[u8], book: &[u8], n: u8) -> Outcome {
+    if n != 0 {
+        return expected(b"slots");
     }
+    pond_bench::slots(b, store, book);
+    Outcome::Done
 }

@@ -5,10 +5,10 @@ use Rattle.pond_look.proofs.maps.lines.Statement.{statement}
 use Rattle.pond_look.proofs.maps.lines.Tie as tie
 
 abbrev Inv-loop : tie.InvT-loop
-Inv-loop b from n at₀ at = Unit {0}
+Inv-loop b book from n at₀ at = Unit {0}
 
 abbrev μ-loop : tie.MeasureT-loop
-μ-loop b from n at₀ at = n - at
+μ-loop b book from n at₀ at = n - at
 
 loop-holds : tie.Need-loop-holds Inv-loop μ-loop
 loop-holds c = search needs

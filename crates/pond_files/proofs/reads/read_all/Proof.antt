@@ -1,10 +1,10 @@
--- `read_all` is safe and ends: each turn but the last fills more of the buffer. Assumes nothing.
+-- `reads::read_all` is safe and ends: each turn but the last fills more of the buffer. Assumes nothing.
 use Prim.Native.Nat.{_-_, _≤_}
 use mathlib.Core.Path.{_≡_}
 use borrow.Author.Needs.{needs}
 use lib.ListN.{length}
-use Rattle.pond_files.proofs.read_all.Statement.{statement}
-use Rattle.pond_files.proofs.read_all.Tie as tie
+use Rattle.pond_files.proofs.reads.read_all.Statement.{statement}
+use Rattle.pond_files.proofs.reads.read_all.Tie as tie
 
 abbrev Inv-loop : tie.InvT-loop
 Inv-loop fd room₀ at₀ room at = (at ≤ length room₀) × (length room ≡ length room₀)
