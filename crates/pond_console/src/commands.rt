@@ -1,10 +1,12 @@
 // The commands by name, and which words each takes.
 // Above it: what is typed, a line or the program's arguments. Below it: a function for each command, in `pond_segments` for files and behind `pond_words` for the bench.
 use pond_bench::Next;
+use pond_parts::Part;
 use pond_rows::row;
 use pond_say::Outcome;
 use pond_words::expected;
 use sound::Bench;
+use text::Number;
 use text::same;
 
 // The commands that need no bench.
@@ -95,7 +97,7 @@ pub fn of_files(c: Command, tape: &[u8], n: u8) -> Outcome {
     match c {
         Command::Help => help(n, row(tape, 1)),
         Command::Check => check(n, row(tape, 1)),
-        Command::List => list(n, row(tape, 1)),
+        Command::List => list(tape, n),
         Command::Run => pond_words::run(tape, n),
         Command::Demo => demo(n),
         Command::Quit => quit(n),
@@ -131,11 +133,28 @@ fn check(n: u8, file: &[u8]) -> Outcome {
     expected(b"check FILE")
 }
 
-fn list(n: u8, file: &[u8]) -> Outcome {
+// All of a listing, or a part of it.
+fn list(tape: &[u8], n: u8) -> Outcome {
     if n == 1 {
-        return pond_segments::list(file);
+        return pond_segments::list(row(tape, 1));
     }
-    expected(b"list FILE")
+    if n == 3 {
+        let k = text::number_of(row(tape, 3));
+        if let Number::Value(k) = k {
+            return part(row(tape, 1), row(tape, 2), k);
+        }
+    }
+    expected(b"list FILE, list FILE routine K or list FILE near BYTE")
+}
+
+fn part(file: &[u8], which: &[u8], k: u64) -> Outcome {
+    if same(which, b"routine") {
+        return pond_parts::list_part(file, Part::Routine(k));
+    }
+    if same(which, b"near") {
+        return pond_parts::list_part(file, Part::Near(k));
+    }
+    expected(b"list FILE, list FILE routine K or list FILE near BYTE")
 }
 
 fn demo(n: u8) -> Outcome {

@@ -16,6 +16,7 @@ pub fn help(command: &[u8]) -> bool {
     chosen(
         b"check FILE                     the header numbers and routines of a segment, or why it is refused\n\
           list FILE                      the instructions of a segment\n\
+          \x20 list FILE routine 2: those of one routine; list FILE near 46: some before and behind a byte.\n\
           turn FILE OUT                  writes the segment with the other byte sex to OUT\n\
           \x20 OUT is a new file, or a regular file that keeps its mode; a link, a folder, a device or a pipe is refused.\n\
           \x20 A file whose name is a number is given as ./0.\n\
@@ -34,8 +35,10 @@ pub fn help(command: &[u8]) -> bool {
           \x20 open north weekly 32 calls it north, and every command takes the name for its number.\n\
           turn SESSION STEPS             runs a session for so many steps, or until it finishes or faults\n\
           \x20 Ctrl-C ends it after the steps done so far.\n\
-          show SESSION                   its kind, region and registers, and why it faulted\n\
+          step SESSION [N]               does one step, or N, and shows each instruction, with the stack before and behind it\n\
+          show SESSION                   its kind, region and registers, its next instruction and calls, and why it faulted\n\
           words SESSION [FROM [COUNT]]   its words, by its own addresses\n\
+          save SESSION FILE              its words as text that a spreadsheet reads\n\
           shared [FROM [COUNT]]          the shared words\n\
           map                            who has which words of the memory\n\
           close SESSION                  closes a session and frees its words\n\

@@ -1,6 +1,7 @@
 // The commands on the bench by name, and the numbers and names among their words.
 // Above it: the console. Below it: `pond_bench`, which asks the bench.
 use crate::expects;
+use crate::expects::One;
 use crate::expects::expected;
 use crate::expects::number;
 use crate::expects::unknown;
@@ -23,6 +24,8 @@ enum Deed {
     Map,
     Slots,
     Close,
+    Step,
+    Save,
     Unknown,
 }
 
@@ -70,8 +73,18 @@ fn named_too(verb: &[u8]) -> Deed {
     if same(verb, b"slots") {
         return Deed::Slots;
     }
+    named_last(verb)
+}
+
+fn named_last(verb: &[u8]) -> Deed {
     if same(verb, b"close") {
         return Deed::Close;
+    }
+    if same(verb, b"step") {
+        return Deed::Step;
+    }
+    if same(verb, b"save") {
+        return Deed::Save;
     }
     Deed::Unknown
 }
@@ -129,6 +142,7 @@ fn lent(
         Deed::Open => open(b, memory, store, book, tape, n),
         Deed::Turn => turn(b, memory, store, book, tape, n),
         Deed::Close => close(b, memory, store, book, tape, n),
+        Deed::Step => step(b, memory, store, book, tape, n),
         _ => kept(b, seen(d, b, memory, store, book, tape, n)),
     }
 }
@@ -149,6 +163,7 @@ fn seen(
         Deed::Shared => shared(b, memory, tape, n),
         Deed::Map => map(b, book, n),
         Deed::Slots => slots(b, store, book, n),
+        Deed::Save => save(b, memory, book, tape, n),
         _ => unknown(row(tape, 0)),
     }
 }
@@ -242,13 +257,53 @@ fn close(b: Bench, memory: &mut [u16], store: &[u8], book: &mut [u8], tape: &[u8
     kept(b, Outcome::Typing)
 }
 
+// `step SESSION`, or `step SESSION N`.
+fn step(b: Bench, memory: &mut [u16], store: &[u8], book: &[u8], tape: &[u8], n: u8) -> Next {
+    let steps = steps_of(row(tape, 2), n);
+    if !steps.ok {
+        return kept(b, Outcome::Typing);
+    }
+    let s = expects::session(book, row(tape, 1));
+    if !s.ok {
+        return kept(b, Outcome::Typing);
+    }
+    pond_closer::step(b, memory, store, book, s.value, steps.value)
+}
+
+fn steps_of(word: &[u8], n: u8) -> One {
+    let form = b"step SESSION [N]";
+    match n {
+        1 => One { ok: true, value: 1 },
+        2 => number(word, form),
+        _ => {
+            expected(form);
+            expects::none()
+        }
+    }
+}
+
+fn save(b: Bench, memory: &[u16], book: &[u8], tape: &[u8], n: u8) -> Outcome {
+    if n != 2 {
+        return expected(b"save SESSION FILE");
+    }
+    let s = expects::session(book, row(tape, 1));
+    if s.ok {
+        return pond_closer::save(b, memory, book, s.value, row(tape, 2));
+    }
+    Outcome::Typing
+}
+
 fn show(b: Bench, memory: &[u16], store: &[u8], book: &[u8], tape: &[u8], n: u8) -> Outcome {
     if n != 1 {
         return expected(b"show SESSION");
     }
     let s = expects::session(book, row(tape, 1));
     if s.ok {
-        return pond_bench::show(b, memory, store, book, s.value);
+        let o = pond_bench::show(b, memory, store, book, s.value);
+        if pond_say::went(o) {
+            pond_closer::closer(b, memory, store, s.value);
+        }
+        return o;
     }
     Outcome::Typing
 }
