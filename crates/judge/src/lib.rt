@@ -1,5 +1,5 @@
 // The judgement of a step: the one fault, or what changes. It only reads.
-// Above: `machine`, which writes what is planned; below: `plan`, what each meaning comes to, and `opcodes`, the first byte.
+// Above: `machine`, which writes what is planned; below: `plan`, what each meaning comes to, and `operand`, by which each arm fetches its own.
 use operand::Operand;
 use plan::Binary;
 use plan::Division;
@@ -47,7 +47,7 @@ enum Byte {
 const DEEPEST: u16 = 127;
 
 // What the instruction of a first byte does, whose operands stand at `at`. One flat match, one arm a byte or a short range: a match in a
-// match would be a second jump at every step, and a function for each part of it would pass its answer through memory.
+// match would be a second jump at every step. docs/PERFORMANCE.md says what keeps the answer of an arm's call out of memory.
 fn act(
     seg: &[u8],
     facts: Facts,
