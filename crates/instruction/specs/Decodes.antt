@@ -11,10 +11,10 @@ use Rattle.pmachine.specs.Decoding.{Decoded, faulty, decodedWith, all, decode}
 use Rattle.instruction.specs.declared.Instruction.{Instruction}
 use Rattle.instruction.specs.Standing.{standing}
 
--- one that is whole: as many of x and y as its first byte has operands, judged and read as the definition does
+-- one that is whole: as many of x, y and z as its first byte has operands, judged and read as the definition does
 unfoldable pub wholeDecoded : Instruction → Row → Decoded
-wholeDecoded i (carried forms taken given does) = decodedWith forms (i .taken) (i .given) does (all (take (length forms) (i .x ∷ i .y ∷ [])) (i .next))
-wholeDecoded i uncarried = faulty 2
+wholeDecoded i (carried forms taken given does) = decodedWith forms (i .taken) (i .given) does (all (take (length forms) (i .x ∷ i .y ∷ i .z ∷ [])) (i .next))
+wholeDecoded i (uncarried forms) = faulty 2
 
 -- 2 is "not carried", 1 a byte that is missing
 unfoldable pub decodingOf : Instruction → Decoded

@@ -4,7 +4,7 @@ use Prim.Native.Nat.{ℕ, _-_, _<_, _≤_}
 use native.Mathlib.Omega.{arith}
 use mathlib.Core.Path.{_≡_, sym, ap, _∙_}
 use mathlib.Core.List.{List, [], _∷_}
-use mathlib.Core.Bool.{true}
+use mathlib.Core.Bool.{true, false}
 use lib.ListN.{length}
 use mir.Val.{Fits}
 use mir.Syntax.{w16}
@@ -12,7 +12,7 @@ use Rattle.operand.specs.declared.Operand.{Operand}
 use Rattle.operand.specs.declared.Operand.the-variants.{Got, Out}
 use Rattle.operand.specs.Operand.{Form, UB, DB, got, fetched, fetchedOf}
 use Rattle.pmachine.specs.Meaning.{Meaning}
-use Rattle.pmachine.specs.Opcode.{Row, carried, uncarried, opcode}
+use Rattle.pmachine.specs.Opcode.{Row, carried, isCarried, opcode}
 use Rattle.pmachine.specs.Decoding.{lawful, rowDecoded}
 use Rattle.pmachine.specs.Step.{Outcome, follow, outcome, judgedBy}
 use Rattle.plan.specs.declared.Regs.{Regs}
@@ -35,8 +35,8 @@ module _ {s shared w : List ℕ} {q : Regs} {f : Facts} (ready : Ready s f share
   says b {x} e {P} = row s shared w (regsOf q) at P b x e
 
   -- a byte that is not carried, and one of a range, with no operand
-  pub unknown : (b : ℕ) → opcode b ≡ uncarried → Says b (outcomeOf q (Bad 2))
-  unknown b e = says b e (bad q 2 ∙ sym (no-row s shared w (regsOf q) at))
+  pub unknown : (b : ℕ) → isCarried (opcode b) ≡ false → Says b (outcomeOf q (Bad 2))
+  unknown b e = bad q 2 ∙ sym (no-row (opcode b) s shared w (regsOf q) at e)
 
   pub short : (b : ℕ) {t g : ℕ} {does : List ℕ → Meaning} → opcode b ≡ carried [] t g does → {P : Outcome}
       → P ≡ outcome s shared w (regsOf q) (instr (does []) t g at) → Says b P

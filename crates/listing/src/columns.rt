@@ -2,8 +2,8 @@
 // Above it: the lines of a listing. Below it: how the console speaks.
 use text::front;
 
-// The longest instruction has four bytes.
-const WIDTH: usize = 13;
+// The longest instruction has five bytes.
+const WIDTH: usize = 16;
 
 pub fn place(at: usize) {
     pond_say::text(b"  byte ");
@@ -15,7 +15,7 @@ pub fn place(at: usize) {
 pub fn bytes(seg: &[u8], at: usize, next: usize) {
     let part = between(seg, at, next);
     each(part);
-    if part.len() < 5 {
+    if part.len() < 6 {
         gap(3 * part.len(), WIDTH);
     }
 }

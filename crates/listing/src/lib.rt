@@ -11,6 +11,7 @@ mod routines;
 mod rows;
 mod table;
 
+pub use lines::after;
 pub use lines::line;
 pub use routines::listing;
 pub use table::mnemonic;

@@ -2,6 +2,8 @@
 // Above it: whole listings, and what is told of a fault. Below it: `instruction` and the columns.
 use crate::columns;
 use crate::places;
+use crate::places::NAT;
+use crate::places::NAT_INFO;
 use crate::table;
 use instruction::Instruction;
 ghost use Prim.Native.Nat.{_<_};
@@ -19,7 +21,7 @@ pub fn line(seg: &[u8], at: usize) -> usize
     places::forward(seg.len(), at, next)
 }
 
-// The line without its end, and the byte after the instruction as it was read.
+// The line without its end, and the byte where the next line begins.
 pub fn row(seg: &[u8], at: usize) -> usize {
     columns::place(at);
     if seg.len() <= at {
@@ -27,17 +29,25 @@ pub fn row(seg: &[u8], at: usize) -> usize {
         return at;
     }
     let i = instruction::read(seg, at);
-    let next = i.next;
-    columns::bytes(seg, at, next);
+    columns::bytes(seg, at, i.next);
     named(seg, i);
-    next
+    places::line_after(seg.len(), i.first, i.x, i.next)
+}
+
+// The byte where the line after that of a byte begins, and nothing is printed.
+pub fn after(seg: &[u8], at: usize) -> usize {
+    if seg.len() <= at {
+        return at;
+    }
+    let i = instruction::read(seg, at);
+    places::line_after(seg.len(), i.first, i.x, i.next)
 }
 
 fn named(seg: &[u8], i: Instruction) {
     let n = table::name(i.first);
     columns::gap(n, WIDTH);
     if !i.carried {
-        other(n);
+        other(n, i);
     } else if !i.whole {
         pond_say::text(b"cut off by the end of the segment");
     } else if over(i.first, i.x) {
@@ -47,12 +57,20 @@ fn named(seg: &[u8], i: Instruction) {
     }
 }
 
-// A first byte without a mnemonic, which shows as one character, is no instruction.
-fn other(name: usize) {
+// A first byte that is not carried. One without a mnemonic, which shows as one character, is no instruction.
+fn other(name: usize, i: Instruction) {
     if name < 2 {
         pond_say::text(b"no instruction");
-    } else {
-        pond_say::text(b"not carried");
+        return;
+    }
+    pond_say::text(b"not carried");
+    if i.first == NAT {
+        pond_say::text(b": native code from here on, which is not listed");
+    } else if !i.whole {
+        pond_say::text(b", and cut off by the end of the segment");
+    } else if i.first == NAT_INFO {
+        pond_say::text(b": passed over with what stands behind it, bytes: ");
+        pond_say::number(i.x as u64);
     }
 }
 

@@ -20,12 +20,12 @@ pub fn long(row: &[u8], k: u8, seg: &[u8], o: Operands) -> usize {
     0
 }
 
-// A short form: four letters and its number, which is below 100 and stands in for the operand.
-pub fn short(all: &[u8], n: u8, seg: &[u8], named: bool) -> usize {
+// Entry k of a row of short forms: behind the mnemonic stands a number below 100, which is also the operand. The dash of an unused
+// number stands alone.
+pub fn short(row: &[u8], k: u8, n: u8, seg: &[u8], named: bool) -> usize {
+    let all = piece(row, k);
     if named {
-        pond_say::text(word(all, 0));
-        pond_say::number(n as u64);
-        return if n < 10 { 5 } else { 6 };
+        return numbered(word(all, 0), n);
     }
     phrase(
         all,
@@ -38,6 +38,15 @@ pub fn short(all: &[u8], n: u8, seg: &[u8], named: bool) -> usize {
         },
     );
     0
+}
+
+fn numbered(name: &[u8], n: u8) -> usize {
+    pond_say::text(name);
+    if name.len() < 2 {
+        return 1;
+    }
+    pond_say::number(n as u64);
+    if n < 10 { 5 } else { 6 }
 }
 
 // The words behind the mnemonic.

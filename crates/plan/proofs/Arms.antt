@@ -12,7 +12,7 @@ use Rattle.segment.specs.Head.{words}
 use Rattle.pmachine.specs.State.{Registers}
 use Rattle.pmachine.specs.Meaning.{Whose, globals, up, Meaning, constant, pool-offset, load, address, store, index, indirect, unary, binary, division}
 use Rattle.pmachine.specs.Meaning.{duplicate, swap, nothing, subrange, jump, jump-if, call, return}
-use Rattle.pmachine.specs.Opcode.{Row, carried, uncarried, opcode, rowIn, appendixB}
+use Rattle.pmachine.specs.Opcode.{Row, carried, isCarried, opcode, rowIn, appendixB}
 use Rattle.pmachine.specs.Decoding.{rowDecoded}
 use Rattle.pmachine.specs.Step.{Outcome, fault, goes, floor, moved, reached, reaches, broken, outcome, judgedBy}
 use Rattle.pmachine.specs.Sound.{Ranged}
@@ -44,8 +44,8 @@ pub sldo : (b : ℕ) → 48 ≤ b → b < 64 → opcode b ≡ carried [] 0 1 (λ
 unfolding opcode rowIn appendixB
 sldo b l h = rw (lt-leb b 31 (omega arith), lt-leb b 47 (omega arith), le-leb b 63 (omega arith))
 
-pub gap-low : (b : ℕ) → 64 ≤ b → b < 96 → opcode b ≡ uncarried
-unfolding opcode rowIn appendixB
+pub gap-low : (b : ℕ) → 64 ≤ b → b < 96 → isCarried (opcode b) ≡ false
+unfolding isCarried opcode rowIn appendixB
 gap-low b l h =
     rw (lt-leb b 31 (omega arith), lt-leb b 47 (omega arith), lt-leb b 63 (omega arith), le-leb b 95 (omega arith))
 
@@ -66,8 +66,8 @@ sstl b l h =
       le-leb b 111 (omega arith),
     )
 
-pub gap-high : (b : ℕ) → 112 ≤ b → b < 120 → opcode b ≡ uncarried
-unfolding opcode rowIn appendixB
+pub gap-high : (b : ℕ) → 112 ≤ b → b < 120 → isCarried (opcode b) ≡ false
+unfolding isCarried opcode rowIn appendixB
 gap-high b l h =
     rw (
       lt-leb b 31 (omega arith),
@@ -104,10 +104,6 @@ keys =
     ∷ 164 ∷ 163 ∷ 162 ∷ 161 ∷ 160 ∷ 156 ∷ 152 ∷ 150 ∷ 146 ∷ 145 ∷ 144 ∷ 143 ∷ 141 ∷ 140 ∷ 139 ∷ 138 ∷ 137 ∷ 136 ∷ 135 ∷ 134 ∷ 133 ∷ 132 ∷ 130 ∷ 129 ∷ 128
     ∷ []
 
-isCarried : Row → Bool
-isCarried (carried forms taken given does) = true
-isCarried uncarried = false
-
 listed : ℕ → Bool
 listed b = not (leb 128 b) || not (isCarried (opcode b)) || member b keys
 
@@ -125,13 +121,13 @@ unfolding member
 none-of [] b h = refl
 none-of (k ∷ ks) b h = rw (ne-eqb b k (h .1)) (none-of ks b (h .0))
 
-pub no-key : (b : ℕ) → b < 256 → 128 ≤ b → Others keys b → opcode b ≡ uncarried
-unfolding listed isCarried
-no-key b h l o = go (opcode b) refl
+pub no-key : (b : ℕ) → b < 256 → 128 ≤ b → Others keys b → isCarried (opcode b) ≡ false
+unfolding listed
+no-key b h l o = go (isCarried (opcode b)) refl
   where
-    go : (x : Row) → opcode b ≡ x → opcode b ≡ uncarried
-    go (carried f t g d) p = absurd (false≢true (rw (le-leb 128 b l, p, none-of keys b o) at (at-number listed 256 tested b h)))
-    go uncarried p = p
+    go : (x : Bool) → isCarried (opcode b) ≡ x → isCarried (opcode b) ≡ false
+    go true p = absurd (false≢true (rw (le-leb 128 b l, p, none-of keys b o) at (at-number listed 256 tested b h)))
+    go false p = p
 
 -- what is judged of a byte, from its row, or from the byte that it is
 module _ (s shared w : List ℕ) (r : Registers) (at : ℕ) (P : Outcome) where

@@ -3,18 +3,18 @@
 use Prim.Native.Nat.{ℕ, zero, suc, _+_, _<_, _≤_}
 use mathlib.Core.Path.{_≡_, refl, sym, _∙_, ap, subst}
 use mathlib.Core.List.{List, [], _∷_}
-use mathlib.Core.Bool.{true}
+use mathlib.Core.Bool.{true, false, false≢true}
 use lib.Dec.{leb}
 use lib.ListN.{length, getD}
 use borrow.Author.Tests.{le-leb, lt-leb, leb-true}
 use Rattle.basis.proofs.Bools.{cond-holds, and-snd}
 use Rattle.operand.specs.declared.Operand.{Operand}
 use Rattle.operand.specs.declared.Operand.the-variants.{Got, Out}
-use Rattle.operand.specs.Operand.{Form, UB, SB, DB, B, W, got, out, fetched, fetchedOf}
+use Rattle.operand.specs.Operand.{Form, UB, DB, got, out, fetched, fetchedOf}
 use Rattle.operand.proofs.Operands.{got-lies}
 use Rattle.pmachine.specs.State.{Registers}
 use Rattle.pmachine.specs.Meaning.{globals, up, Meaning}
-use Rattle.pmachine.specs.Opcode.{carried, uncarried}
+use Rattle.pmachine.specs.Opcode.{Row, carried, uncarried, isCarried}
 use Rattle.pmachine.specs.Decoding.{joined, andThen, operands, lawful, allLawful, decodedWith, rowDecoded}
 use Rattle.pmachine.specs.Step.{fault, Link as Linked, reaches, broken, pointer, follow, reached, outcome, judgedBy}
 use Rattle.plan.specs.declared.Link.{Link}
@@ -25,22 +25,6 @@ use Rattle.plan.proofs.Meanings.{instr}
 -- ---- operands
 
 -- only a DB is judged, and it is fetched as a UB is
-pub lawful-UB : (v : ℕ) → lawful UB v ≡ true
-unfolding lawful
-lawful-UB v = refl
-
-pub lawful-SB : (v : ℕ) → lawful SB v ≡ true
-unfolding lawful
-lawful-SB v = refl
-
-pub lawful-B : (v : ℕ) → lawful B v ≡ true
-unfolding lawful
-lawful-B v = refl
-
-pub lawful-W : (v : ℕ) → lawful W v ≡ true
-unfolding lawful
-lawful-W v = refl
-
 pub lawful-DB : (v : ℕ) → v ≤ 127 → lawful DB v ≡ true
 unfolding lawful
 lawful-DB v h = le-leb v 127 h
@@ -95,9 +79,10 @@ module _ (s shared w : List ℕ) (r : Registers) (t g : ℕ) (does : List ℕ �
   got2 f' d m a n e e' h l = rw (e, e', lawful-DB d h, l)
 
 -- a byte that is not carried
-pub no-row : (s shared w : List ℕ) (r : Registers) (at : ℕ) → judgedBy s shared w r (rowDecoded uncarried s at) ≡ fault 2
-unfolding judgedBy rowDecoded
-no-row s shared w r at = refl
+pub no-row : (row : Row) (s shared w : List ℕ) (r : Registers) (at : ℕ) → isCarried row ≡ false → judgedBy s shared w r (rowDecoded row s at) ≡ fault 2
+unfolding isCarried judgedBy rowDecoded
+no-row (carried forms taken given does) s shared w r at e = absurd (false≢true (sym e))
+no-row (uncarried forms) s shared w r at e = refl
 
 -- ---- links
 

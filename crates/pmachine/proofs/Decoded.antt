@@ -65,7 +65,7 @@ module _ (s : List ℕ) (at : ℕ) (low : 22 ≤ at) (high : at < length s) wher
   unfolding rowDecoded
   row-proper (carried forms taken given does) r =
       with-proper forms taken given does (operands forms s (at + 1)) r (operands-end forms s (at + 1) (omega arith))
-  row-proper uncarried r = (omega arith, omega arith)
+  row-proper (uncarried forms) r = (omega arith, omega arith)
 
 pub decode-proper : (s : List ℕ) (at : ℕ) → ProperBy s at (decode s at)
 unfolding decode

@@ -47,7 +47,7 @@ pushes (return b) = 0
 -- of a row, whatever its operands
 abbrev pub Roomy : Row → Type 0
 Roomy (carried forms taken given does) = (taken ≤ 3) × (given ≤ 2) × ((vs : List ℕ) → pushes (does vs) ≤ given)
-Roomy uncarried = Unit {0}
+Roomy (uncarried forms) = Unit {0}
 
 -- a test that passes at each number below n
 abbrev pub numbers : (ℕ → Bool) → ℕ → Bool
@@ -63,30 +63,30 @@ at-number f (suc n) t k h =
 
 abbrev roomy : List ℕ → Row → Bool
 roomy vs (carried forms taken given does) = every (leb taken 3 ∷ leb given 2 ∷ leb (pushes (does vs)) given ∷ [])
-roomy vs uncarried = true
+roomy vs (uncarried forms) = true
 
 roomy-row : (row : Row) → ((vs : List ℕ) → roomy vs row ≡ true) → Roomy row
 roomy-row (carried forms taken given does) t =
     let a = every-holds _ (t []) in
     (leb-true _ _ (a .0), leb-true _ _ (a .1 .0), λ vs. leb-true _ _ (every-holds _ (t vs) .1 .1 .0))
-roomy-row uncarried t = tt
+roomy-row (uncarried forms) t = tt
 
-bytes-roomy : (vs : List ℕ) (b : ℕ) → b < 242 → roomy vs (opcode b) ≡ true
+bytes-roomy : (vs : List ℕ) (b : ℕ) → b < 256 → roomy vs (opcode b) ≡ true
 unfolding every opcode rowIn appendixB pushes
-bytes-roomy vs b h = at-number (λ (k : ℕ). roomy vs (opcode k)) 242 refl b h
+bytes-roomy vs b h = at-number (λ (k : ℕ). roomy vs (opcode k)) 256 refl b h
 
 -- every number stands in one line
 pub lines-consecutive : LinesConsecutive
 unfolding consecutive appendixB
 lines-consecutive = refl
 
--- past the last byte that is carried
-high : (b : ℕ) → 241 < b → opcode b ≡ uncarried
+-- past the last byte
+high : (b : ℕ) → 255 < b → opcode b ≡ uncarried []
 unfolding opcode rowIn appendixB
 high b h =
-    let past : (n : ℕ) → T (leb n 241) → leb b n ≡ false = λ n t. lt-leb b n (omega (arith, leb→le n 241 t)) in
+    let past : (n : ℕ) → T (leb n 255) → leb b n ≡ false = λ n t. lt-leb b n (omega (arith, leb→le n 255 t)) in
     let u : Unit {0} = tt in
     simp past
 
 pub opcode-roomy : (b : ℕ) → Roomy (opcode b)
-opcode-roomy b = decided (decLt b 242) (λ h. roomy-row (opcode b) (λ vs. bytes-roomy vs b h)) (λ h. rw (high b (omega arith)) tt)
+opcode-roomy b = decided (decLt b 256) (λ h. roomy-row (opcode b) (λ vs. bytes-roomy vs b h)) (λ h. rw (high b (omega arith)) tt)

@@ -61,7 +61,7 @@ decodedWith forms taken given does (cut place) = faulty 1
 
 unfoldable pub rowDecoded : Row → List ℕ → ℕ → Decoded
 rowDecoded (carried forms taken given does) s at = decodedWith forms taken given does (operands forms s at)
-rowDecoded uncarried s at = faulty 2
+rowDecoded (uncarried forms) s at = faulty 2
 
 -- "the first byte is judged for 1 and 2 before its operands are fetched"; 1 is "an instruction byte outside 22..2W-1"
 unfoldable pub decode : List ℕ → ℕ → Decoded

@@ -167,7 +167,7 @@ fn passed(seg: &[u8], start: usize, byte: usize) -> usize {
     let mut at = start;
     let mut n: usize = 0;
     while at < byte {
-        let next = ahead(seg, at);
+        let next = listing::after(seg, at);
         if next <= at {
             break;
         }
@@ -185,15 +185,6 @@ fn more(n: usize) -> usize {
         return n + 1;
     }
     n
-}
-
-// The byte after the instruction at a byte.
-fn ahead(seg: &[u8], at: usize) -> usize {
-    if at < seg.len() {
-        let i = instruction::read(seg, at);
-        return i.next;
-    }
-    at
 }
 
 // The lines of so many instructions from start on, but for some that are passed over.
@@ -217,5 +208,5 @@ fn line(seg: &[u8], at: usize, shown: bool) -> usize {
     if shown {
         return listing::line(seg, at);
     }
-    ahead(seg, at)
+    listing::after(seg, at)
 }

@@ -1,4 +1,4 @@
--- `code::table` agrees with the opcode definition: one test that antt computes over the very constant. Assumes nothing.
+-- `opcodes::table` agrees with the opcode definition: one test that antt computes over the very constant. Assumes nothing.
 use mathlib.Core.Path.{refl}
 use Rattle.pmachine.specs.Opcode.{opcode, rowIn, appendixB}
 use Rattle.opcodes.specs.Packed.{packedForms, packed}
