@@ -6,7 +6,7 @@ use lib.Dec.{ltb, eqb}
 
 -- so many bytes on, or the end of the segment
 unfoldable pub onward : ℕ → ℕ → ℕ → ℕ
-onward len next x = cond (ltb x (len - next)) (next + x) len
+onward len next x = cond (ltb next len) (cond (ltb x (len - next)) (next + x) len) len
 
 -- NAT, 168: "Transfer control to native code that begins directly after this instruction." Where that ends no one can tell.
 -- NAT-INFO, 169: "Ignore the next B bytes in the p-code stream."

@@ -7,6 +7,7 @@ ghost use Rattle.listing.specs.Native.{onward, lineAfter};
 
 // The numbers of native code, and of what is told about it.
 pub const NAT: u8 = 168;
+
 pub const NAT_INFO: u8 = 169;
 
 // Whether a jump to byte t stays in the code of a segment of so many bytes: its target lies in 22..2W-1.
