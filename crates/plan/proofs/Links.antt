@@ -1,5 +1,5 @@
 -- A mark in order, where a routine is entered, and the walk of links, as the code reads them.
--- Above: the proofs of enter, in_order and walk; below: Step of `pmachine`, and what Facts tell.
+-- Above: the proofs of enter, in_order and walk in `plan_calls`; below: Step of `pmachine`, and what Facts tell.
 use mathlib.Core.Path.{_≡_, refl, ap, sym, _∙_}
 use mathlib.Core.List.{List}
 use mathlib.Core.Bool.{Bool, true, false, cond}
