@@ -1,5 +1,5 @@
 // Checks on jumps, static links, calls and returns. Faults 7, 8 and 9.
-// Above it: `judged`, and places for the record of an offset. Below it: numbers, `instruction` for a jump's target, `plan` for the walk of links.
+// Above it: `judged`, and places for the record of an offset. Below it: numbers, `instruction` for a jump's target, `plan_calls` for the walk of links.
 use crate::meaning::Whose;
 use crate::numbers::Numbers;
 use crate::numbers::is_outside;
@@ -53,7 +53,7 @@ fn bad_link(region: &[u16], m: usize, d: u16) -> Reached
     let mut before = d;
     while 0 < before {
         before -= 1;
-        let l = plan::reach(region, m, before);
+        let l = plan_calls::reach(region, m, before);
         if let Link::Record(at) = l {
             return Reached::Bad(d, d - before, narrow(at), word(region, at));
         }
@@ -71,7 +71,7 @@ fn up(region: &[u16], m: usize, d: u16) -> Reached
         }
         return Reached::Bad(d, d, narrow(m), 0);
     }
-    let l = plan::reach(region, m, d);
+    let l = plan_calls::reach(region, m, d);
     match l {
         Link::Record(at) => Reached::Record(at),
         Link::Broken => bad_link(region, m, d),

@@ -1,5 +1,5 @@
 // Where a jump leads, for people: also how far below the segment.
-// Above: listings, and what is told of a fault. Below: nothing. The machine's own step asks `plan`, which needs only whether the target is code.
+// Above: listings, and what is told of a fault. Below: nothing. The machine's own step asks `plan_calls`, which needs only whether the target is code.
 ghost use mathlib.Core.Path.{_≡_};
 ghost use Rattle.pmachine.specs.Step.{target};
 ghost use Rattle.instruction.specs.Targets.{byteOf};

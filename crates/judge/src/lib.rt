@@ -1,5 +1,6 @@
 // The judgement of a step: the one fault, or what changes. It only reads.
-// Above: `machine`, which writes what is planned; below: `plan`, what each meaning comes to, and `operand`, by which each arm fetches its own.
+// Above: `machine`, which writes what is planned; below: `plan_stack`, `plan_places` and `plan_calls`, what each
+// meaning comes to, and `operand`, by which each arm fetches its own.
 use operand::Operand;
 use plan::Binary;
 use plan::Division;
@@ -8,25 +9,25 @@ use plan::Link;
 use plan::Planned;
 use plan::Regs;
 use plan::Unary;
-use plan::address;
-use plan::branch;
-use plan::call;
-use plan::check_range;
-use plan::divide;
-use plan::duplicate;
-use plan::enter;
-use plan::give_back;
-use plan::index;
-use plan::jump;
-use plan::load;
-use plan::one_word;
-use plan::pool_offset;
 use plan::push;
-use plan::reach;
-use plan::store;
-use plan::store_at;
-use plan::swap;
-use plan::two_words;
+use plan_calls::branch;
+use plan_calls::call;
+use plan_calls::enter;
+use plan_calls::give_back;
+use plan_calls::jump;
+use plan_calls::reach;
+use plan_places::address;
+use plan_places::index;
+use plan_places::load;
+use plan_places::pool_offset;
+use plan_places::store;
+use plan_places::store_at;
+use plan_stack::check_range;
+use plan_stack::divide;
+use plan_stack::duplicate;
+use plan_stack::one_word;
+use plan_stack::swap;
+use plan_stack::two_words;
 ghost use mathlib.Core.Path.{_≡_};
 ghost use Prim.Native.Nat.{_+_, _≤_};
 ghost use lib.ListN.{length};

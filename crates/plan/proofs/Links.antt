@@ -1,15 +1,15 @@
 -- A mark in order, where a routine is entered, and the walk of links, as the code reads them.
--- Above: the proofs of enter, in_order and walk; below: Step of `pmachine`, and what Facts tell.
+-- Above: the proofs of enter, in_order and walk in `plan_calls`; below: Step of `pmachine`, and what Facts tell.
 use mathlib.Core.Path.{_≡_, refl, ap, sym, _∙_}
 use mathlib.Core.List.{List}
-use mathlib.Core.Bool.{Bool, true, false, cond}
+use mathlib.Core.Bool.{Bool, true, false, _&&_, cond}
 use Prim.Native.Nat.{ℕ, suc, _+_, _-_, _*_, _<_, _≤_}
 use native.Mathlib.Omega.{arith}
-use borrow.Author.Tests.{le-leb, leb-true, eq-eqb, ne-eqb}
+use borrow.Author.Tests.{le-leb, leb-true, eq-eqb, ne-eqb, eqb-true}
 use lib.Dec.{ltb, leb, eqb}
 use lib.ListN.{length, getD}
 use Rattle.basis.specs.Bools.{inside}
-use Rattle.basis.proofs.Bools.{leb-iff, and-snd}
+use Rattle.basis.proofs.Bools.{leb-iff, and-snd, inside-true}
 use Rattle.operand.specs.Bytes.{wordBy}
 use Rattle.segment.specs.Head.{least, word, dict, count, entry, datasize, start}
 use Rattle.pmachine.specs.Step.{floor, pointer, reaches, broken, follow}
@@ -41,6 +41,28 @@ order-last len size n low mark sp a b c d e f g h =
       le-leb _ _ h,
       below-suc sp size,
     )
+
+-- a mark one of whose numbers is not in order
+one-fails : (a b c d e f : Bool) → (a ≡ true → b ≡ true → c ≡ true → d ≡ true → e ≡ true → f ≡ true → ⊥) → false ≡ ((a && b) && (c && (d && (e && f))))
+one-fails false b c d e f h = refl
+one-fails true false c d e f h = refl
+one-fails true true false d e f h = refl
+one-fails true true true false e f h = refl
+one-fails true true true true false f h = refl
+one-fails true true true true true false h = refl
+one-fails true true true true true true h = absurd (h refl refl refl refl refl refl)
+
+pub disordered : (len size n low : ℕ) (mark : List ℕ) (sp : ℕ)
+    → (1 ≤ getD mark 1 0 → getD mark 1 0 + 5 ≤ size → 1 ≤ getD mark 4 0 → getD mark 4 0 ≤ n → getD mark 3 0 ≡ 1 → 22 ≤ getD mark 2 0 → getD mark 2 0 ≤ len → low ≤ sp → ⊥)
+    → false ≡ inOrder len size n low mark sp
+unfolding inOrder
+disordered len size n low mark sp not-all =
+    one-fails (leb 1 (getD mark 1 0)) (leb (getD mark 1 0 + 5) size) (inside 1 (n + 1) (getD mark 4 0)) (eqb (getD mark 3 0) 1) (inside 22 (len + 1) (getD mark 2 0))
+    (inside low (size + 1) sp) (λ a b c d e f.
+    let routine = inside-true 1 (n + 1) (getD mark 4 0) c in
+    let counter = inside-true 22 (len + 1) (getD mark 2 0) e in
+    not-all (leb-true _ _ a) (leb-true _ _ b) (routine .0) (omega (arith, routine .1)) (eqb-true _ _ d) (counter .0) (omega (arith, counter .1))
+    (inside-true low (size + 1) sp f .0))
 
 module _ (s : List ℕ) (f : Facts) (t : Told s f) where
   sex-told : eqb (f .sex) 0 ≡ least s

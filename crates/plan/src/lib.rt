@@ -1,29 +1,10 @@
-// What each meaning comes to, judged with reads alone: a fault, or what changes. Nothing here writes.
-// Above: `judge`, the flat match over first bytes, and `machine`, which writes what is planned; below: `word`, `operand`, and the definition of a step.
-mod flow;
-mod places;
-mod stack;
-
-pub use flow::branch;
-pub use flow::call;
-pub use flow::enter;
-pub use flow::give_back;
-pub use flow::jump;
-pub use flow::reach;
-pub use places::address;
-pub use places::index;
-pub use places::load;
-pub use places::pool_offset;
-pub use places::store;
-pub use places::store_at;
-pub use stack::check_range;
-pub use stack::divide;
-pub use stack::duplicate;
-pub use stack::one_word;
-pub use stack::push;
-pub use stack::swap;
-pub use stack::two_words;
-pub use stack::word_of;
+// What a step is judged with: registers, what a segment says, and what changes; and the two functions on them that every part asks.
+// Above: `plan_stack`, `plan_places` and `plan_calls`, what each meaning comes to, and all that names registers; below: the definition of a step.
+ghost use mathlib.Core.Path.{_≡_};
+ghost use Prim.Native.Nat.{_-_, _≤_, _<_};
+ghost use lib.ListN.{length, getD};
+ghost use Rattle.plan.specs.Answer.{regsOf, outcomeOf};
+ghost use Rattle.plan.specs.Mirror.{pushed};
 
 // Stack pointer, record pointer, counter and current routine: fields of one width, so that a loop keeps them in registers.
 pub struct Regs {
@@ -106,4 +87,25 @@ pub enum Binary {
 pub enum Division {
     Dvi,
     Modi,
+}
+
+// A word of a region, or of the shared words.
+pub fn word_of(words: &[u16], at: usize) -> u16
+    requires { ⌜ at < length (now words) ⌝ }
+    ensures { λ r. ⌜ r ≡ getD (now (words .entry)) at 0 ⌝ }
+{
+    words[at]
+}
+
+// A word on the stack, if it has room.
+pub fn push(floor: usize, r: Regs, next: usize, v: u16) -> Planned
+    requires { ⌜ 1 ≤ r .sp ⌝ }
+    ensures { λ p. ⌜ outcomeOf r p ≡ pushed floor (regsOf r) next v ⌝ }
+{
+    let sp = r.sp - 1;
+    if sp < floor {
+        Planned::Bad(4)
+    } else {
+        Planned::Top(v, sp, next)
+    }
 }
