@@ -1,11 +1,11 @@
--- What `numbers.rt` cites: a word as a decimal number.
+-- What the code cites: a word as a decimal number.
 -- Above it: the contract of `number_of`. Below it: numbers and lists. Assumes nothing.
 use Prim.Native.Nat.{ℕ, _+_, _*_, _-_, _^_}
 use mathlib.Core.Bool.{Bool, true, _&&_, cond}
 use mathlib.Core.List.{List, [], _∷_}
 use lib.Dec.{ltb, leb}
-use Rattle.text.specs.declared.numbers.Number.{Number}
-use Rattle.text.specs.declared.numbers.Number.the-variants.{Value, Beyond, Not}
+use Rattle.numbers.specs.declared.Number.{Number}
+use Rattle.numbers.specs.declared.Number.the-variants.{Value, Beyond, Not}
 
 -- "0" is 48 and "9" is 57
 unfoldable pub digitByte : ℕ → Bool

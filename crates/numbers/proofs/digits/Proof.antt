@@ -1,14 +1,14 @@
--- `numbers::digits` tests every byte. The invariant: the answer is that of what is left. The measure is what is left of the slice.
+-- `digits` tests every byte. The invariant: the answer is that of what is left. The measure is what is left of the slice.
 -- Assumes nothing.
 use Prim.Native.Nat.{_-_, _≤_}
 use mathlib.Core.Path.{_≡_, sym, _∙_}
 use borrow.Author.Needs.{needs}
 use borrow.Author.Tests.{not-true, not-false}
 use lib.ListN.{length, drop}
-use Rattle.text.specs.Numbers.{allDigits}
-use Rattle.text.proofs.Values.{digits-end, digits-stop, digits-go}
-use Rattle.text.proofs.numbers.digits.Statement.{statement}
-use Rattle.text.proofs.numbers.digits.Tie as tie
+use Rattle.numbers.specs.Numbers.{allDigits}
+use Rattle.numbers.proofs.Values.{digits-end, digits-stop, digits-go}
+use Rattle.numbers.proofs.digits.Statement.{statement}
+use Rattle.numbers.proofs.digits.Tie as tie
 
 abbrev Inv-loop : tie.InvT-loop
 Inv-loop s i₀ i = (i ≤ length s) × (allDigits s ≡ allDigits (drop i s))

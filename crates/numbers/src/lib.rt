@@ -2,7 +2,7 @@
 // Above it: the console. Below it: nothing.
 ghost use mathlib.Core.Path.{_≡_};
 ghost use Prim.Native.Nat.{_-_};
-ghost use Rattle.text.specs.Numbers.{digitByte, allDigits, valueFrom, fitted, numberOf};
+ghost use Rattle.numbers.specs.Numbers.{digitByte, allDigits, valueFrom, fitted, numberOf};
 
 // What a word says as a number.
 pub enum Number {

@@ -1,14 +1,14 @@
--- `numbers::value` is the value of digits, or that it is too large. The invariant: the value is that of what is left, after what was passed.
+-- `value` is the value of digits, or that it is too large. The invariant: the value is that of what is left, after what was passed.
 -- The measure is what is left of the slice. Assumes nothing.
 use Prim.Native.Nat.{_-_, _^_, _≤_, _<_}
 use native.Mathlib.Omega.{arith}
 use mathlib.Core.Path.{_≡_}
 use borrow.Author.Needs.{needs}
 use lib.ListN.{length, drop}
-use Rattle.text.specs.Numbers.{valueFrom}
-use Rattle.text.proofs.Values.{fits, value-ends, value-goes, value-stops}
-use Rattle.text.proofs.numbers.value.Statement.{statement}
-use Rattle.text.proofs.numbers.value.Tie as tie
+use Rattle.numbers.specs.Numbers.{valueFrom}
+use Rattle.numbers.proofs.Values.{fits, value-ends, value-goes, value-stops}
+use Rattle.numbers.proofs.value.Statement.{statement}
+use Rattle.numbers.proofs.value.Tie as tie
 
 abbrev Inv-loop : tie.InvT-loop
 Inv-loop s v₀ i₀ v i = (i ≤ length s) × (v < 2 ^ 64) × (valueFrom 0 s ≡ valueFrom v (drop i s))

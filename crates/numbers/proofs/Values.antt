@@ -1,5 +1,5 @@
 -- The laws of a word as a number: one turn of each loop, and its end.
--- Above it: the proofs of `numbers.rt`. Below it: the definitions. Assumes nothing.
+-- Above it: the proofs of the functions. Below it: the definitions. Assumes nothing.
 use Prim.Native.Nat.{ℕ, _+_, _*_, _-_, _/_, _^_, _≤_, _<_}
 use native.Mathlib.Omega.{arith}
 use native.Mathlib.Nat.{le-refl, le-trans, div-mul-le-self, lt-div-mul-add}
@@ -10,9 +10,9 @@ use mathlib.Core.List.{List, [], _∷_}
 use lib.ListN.{length, getD, drop, drop-of-length-le}
 use lib.Seq.{drop-cons}
 use borrow.Author.Tests.{lt-ltb, le-ltb}
-use Rattle.text.specs.Numbers.{digitByte, allDigits, valueFrom, fitted, numberOf}
-use Rattle.text.specs.declared.numbers.Number.{Number}
-use Rattle.text.specs.declared.numbers.Number.the-variants.{Value, Beyond, Not}
+use Rattle.numbers.specs.Numbers.{digitByte, allDigits, valueFrom, fitted, numberOf}
+use Rattle.numbers.specs.declared.Number.{Number}
+use Rattle.numbers.specs.declared.Number.the-variants.{Value, Beyond, Not}
 
 -- ---- digits, of what is left at index i
 

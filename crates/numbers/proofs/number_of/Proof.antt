@@ -1,10 +1,10 @@
--- `numbers::number_of` is its definition: no bytes, a byte that is no digit, and the value of digits. Assumes nothing.
+-- `number_of` is its definition: no bytes, a byte that is no digit, and the value of digits. Assumes nothing.
 use mathlib.Core.Path.{sym, _∙_}
 use borrow.Author.Needs.{needs}
 use borrow.Author.Tests.{not-true, not-false}
-use Rattle.text.proofs.Values.{number-none, number-not, number-is}
-use Rattle.text.proofs.numbers.number_of.Statement.{statement}
-use Rattle.text.proofs.numbers.number_of.Tie as tie
+use Rattle.numbers.proofs.Values.{number-none, number-not, number-is}
+use Rattle.numbers.proofs.number_of.Statement.{statement}
+use Rattle.numbers.proofs.number_of.Tie as tie
 
 returns-3 : tie.Need-returns-3
 returns-3 c = number-is _ _ (c .before .before .before .if1 .left) (sym (not-false _ (c .before .if2 .left)) ∙ c .before .before .digits .ensures) (c .value .ensures)
