@@ -1,43 +1,34 @@
-// What follows from how a line went: whether a script stops, what it goes on after, and with which status it ends.
-// Above it: the lines. Below it: the tape, and how the console speaks.
-use pond_bench::Next;
-use pond_rows::row;
+// What follows from how a line went: whether a script stops, and with which status it ends.
+// Above it: the lines. Below it: how the console speaks.
 use pond_say::Outcome;
-use pond_typed::is_command;
-use sound::Bench;
-use text::same;
 
-// The bench after a line, what a script goes on after (0 nothing, 1 a fault, 2 any failure), the line's status, and whether another line may follow.
-pub struct After {
-    pub bench: Bench,
-    pub keep: u8,
+// The line's status, and whether another line may follow.
+pub struct Settled {
     pub status: u8,
     pub more: bool,
 }
 
 // A person is never stopped, but where nothing can be shown any more. So many turns of the loop over lines are left.
-pub fn settled(next: Next, typed: bool, keep: u8, left: u64, more: bool) -> After {
-    let heard = !pond_say::lost();
-    let bench = next.bench;
-    let outcome = next.outcome;
+pub fn settled(outcome: Outcome, typed: bool, keep: u8, left: u64, more: bool) -> Settled {
+    let goes_on = bounds::both(more, !pond_say::lost());
     if typed {
-        return After {
-            bench,
-            keep,
+        return Settled {
             status: 0,
-            more: bounds::both(more, heard),
+            more: goes_on,
         };
     }
     let o = seen(outcome);
-    let stops = stops_at(o, keep);
-    if stops {
-        stopped(left, pond_say::status(o));
+    let status = pond_say::status(o);
+    if stops_at(o, keep) {
+        stopped(left, status);
+        return Settled {
+            status,
+            more: false,
+        };
     }
-    After {
-        bench,
-        keep,
-        status: pond_say::status(o),
-        more: bounds::both(more, bounds::both(heard, !stops)),
+    Settled {
+        status,
+        more: goes_on,
     }
 }
 
@@ -49,6 +40,7 @@ fn seen(o: Outcome) -> Outcome {
     o
 }
 
+// A script goes on after nothing (0), a fault (1) or any failure (2).
 fn stops_at(o: Outcome, keep: u8) -> bool {
     match o {
         Outcome::Done => false,
@@ -80,43 +72,4 @@ pub fn worse(a: u8, b: u8) -> u8 {
         return b;
     }
     a
-}
-
-// What a script goes on after from this line on.
-pub fn kept_on(tape: &[u8], words: usize, keep: u8) -> u8 {
-    if !bounds::both(same(row(tape, 0), b"keep"), same(row(tape, 1), b"going")) {
-        return keep;
-    }
-    if words == 2 {
-        return 1;
-    }
-    if bounds::both(words == 3, same(row(tape, 2), b"always")) {
-        return 2;
-    }
-    keep
-}
-
-// Whether the line is the word `quit` or `exit` and nothing more.
-pub fn quits(tape: &[u8], words: usize) -> bool {
-    if words != 1 {
-        return false;
-    }
-    bounds::either(same(row(tape, 0), b"quit"), same(row(tape, 0), b"exit"))
-}
-
-// What was read and not typed is shown before its answer, as a terminal would show it. The input's
-// end is no line, and a line that is too long is not shown.
-pub fn echo(kept: &[u8], more: bool, over: bool) {
-    if over {
-        return;
-    }
-    if is_command(kept) {
-        pond_say::text(b"> ");
-    } else if kept.len() == 0 {
-        if !more {
-            return;
-        }
-    }
-    pond_say::path(kept);
-    pond_say::end();
 }
