@@ -129,7 +129,8 @@ fn one_line(
     let h = heard::line(typed, &mut tape, keep);
     let next = obeyed(b, memory, store, book, &tape, h);
     let bench = next.bench;
-    let s = stops::settled(next.outcome, typed, h.keep, left, h.more);
+    let outcome = next.outcome;
+    let s = stops::settled(outcome, typed, h.keep, left, h.more);
     After {
         bench,
         keep: h.keep,

@@ -3,16 +3,16 @@
 use pond_say::Outcome;
 
 // The line's status, and whether another line may follow.
-pub struct Settled {
+pub struct Went {
     pub status: u8,
     pub more: bool,
 }
 
 // A person is never stopped, but where nothing can be shown any more. So many turns of the loop over lines are left.
-pub fn settled(outcome: Outcome, typed: bool, keep: u8, left: u64, more: bool) -> Settled {
+pub fn settled(outcome: Outcome, typed: bool, keep: u8, left: u64, more: bool) -> Went {
     let goes_on = bounds::both(more, !pond_say::lost());
     if typed {
-        return Settled {
+        return Went {
             status: 0,
             more: goes_on,
         };
@@ -21,12 +21,12 @@ pub fn settled(outcome: Outcome, typed: bool, keep: u8, left: u64, more: bool) -
     let status = pond_say::status(o);
     if stops_at(o, keep) {
         stopped(left, status);
-        return Settled {
+        return Went {
             status,
             more: false,
         };
     }
-    Settled {
+    Went {
         status,
         more: goes_on,
     }
