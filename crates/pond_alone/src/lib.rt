@@ -5,7 +5,7 @@ use pond_parts::Part;
 use pond_rows::row;
 use pond_run::Size;
 use pond_say::Outcome;
-use pond_words::Two;
+use pond_words::Given;
 use pond_words::forms;
 use pond_words::forms::expected;
 use pond_words::numbers_at;
@@ -107,12 +107,13 @@ fn sized(tape: &[u8], count: u8, archive: &[u8]) -> Outcome {
     }
     let p = numbers_at(forms::RUN, tape, 2, count);
     if p.ok {
-        return pond_run::run(row(tape, 1), size(p, count), archive);
+        return pond_run::run(row(tape, 1), size(p), archive);
     }
     Outcome::Typing
 }
 
-fn size(p: Two, count: u8) -> Size {
+fn size(p: Given) -> Size {
+    let count = p.count;
     match count {
         0 => Size::Usual,
         1 => Size::Words(p.first),
@@ -122,7 +123,7 @@ fn size(p: Two, count: u8) -> Size {
 
 // What a script goes on after is kept by the console itself.
 fn keep(tape: &[u8], n: u8) -> Outcome {
-    let k = keeps(tape, n);
+    let k = forms::keeps(tape, n);
     if k == 0 {
         return expected(forms::KEEP);
     }
@@ -131,18 +132,4 @@ fn keep(tape: &[u8], n: u8) -> Outcome {
         k,
     ));
     Outcome::Done
-}
-
-// What a script goes on after behind these words of `keep`: 1 a fault, 2 any failure, 0 where they cannot be followed.
-pub fn keeps(tape: &[u8], n: u8) -> u8 {
-    if !same(row(tape, 1), b"going") {
-        return 0;
-    }
-    if n == 1 {
-        return 1;
-    }
-    if bounds::both(n == 2, same(row(tape, 2), b"always")) {
-        return 2;
-    }
-    0
 }

@@ -1,11 +1,11 @@
 // Where commands come from: the program's arguments, or the lines of standard input until it ends.
 // Above it: the program. Below it: words and the commands.
 ghost use Prim.Native.Nat.{_-_, _≤_};
-use crate::heard;
-use crate::heard::Heard;
-use crate::stops;
 use libc::STDIN_FILENO;
 use pond_bench::Next;
+use pond_lines::heard;
+use pond_lines::heard::Heard;
+use pond_lines::stops;
 use pond_rows::row;
 use pond_say::Outcome;
 use pond_typed::Cut;
@@ -152,6 +152,17 @@ fn obeyed(
     }
     Next {
         bench: b,
-        outcome: heard::followed(h, tape),
+        outcome: apart(h, tape),
+    }
+}
+
+// A command that needs no bench, or a line that is none.
+fn apart(h: Heard, tape: &[u8]) -> Outcome {
+    let form = h.form;
+    match form {
+        heard::NOTHING => Outcome::Done,
+        heard::WRONG => Outcome::Typing,
+        heard::FAILED => Outcome::File,
+        _ => pond_alone::follow(form, tape, h.n),
     }
 }

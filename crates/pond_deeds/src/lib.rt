@@ -1,9 +1,11 @@
 // The commands on the console's bench done: each is one function of `pond_bench` or `pond_closer`, which asks the bench.
 // Above it: the console. Below it: the words of the commands, which say what is to be done.
 use pond_bench::Next;
+use pond_bench::Wanted;
 use pond_rows::row;
 use pond_say::Outcome;
 use pond_words::Deed;
+use pond_words::Given;
 use sound::Bench;
 
 // The command on the tape, with n words behind its verb. A new bench is made over all of the memory, and every other command is lent the
@@ -63,8 +65,8 @@ fn lent(
 fn seen(d: Deed, b: Bench, memory: &[u16], store: &[u8], book: &[u8], file: &[u8]) -> Outcome {
     match d {
         Deed::Show(s) => shown(b, memory, store, book, s),
-        Deed::Words(s, wanted) => pond_bench::words(b, memory, book, s, wanted),
-        Deed::Shared(wanted) => pond_bench::shared(b, memory, wanted),
+        Deed::Words(s, p) => pond_bench::words(b, memory, book, s, wanted(p)),
+        Deed::Shared(p) => pond_bench::shared(b, memory, wanted(p)),
         Deed::Save(s) => pond_closer::save(b, memory, book, s, file),
         Deed::Map => {
             pond_bench::map(b, book);
@@ -75,6 +77,16 @@ fn seen(d: Deed, b: Bench, memory: &[u16], store: &[u8], book: &[u8], file: &[u8
             Outcome::Done
         }
         _ => Outcome::Typing,
+    }
+}
+
+// The words that are wanted, where FROM and COUNT, or FROM, or none of them is given.
+fn wanted(p: Given) -> Wanted {
+    let count = p.count;
+    match count {
+        0 => Wanted::All,
+        1 => Wanted::From(p.first),
+        _ => Wanted::Part(p.first, p.second),
     }
 }
 

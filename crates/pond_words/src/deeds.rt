@@ -1,13 +1,12 @@
 // The commands on a bench, with the numbers that their words say. Nothing is done here.
 // Above it: what does them. Below it: forms, numbers and names.
 use crate::expects;
-use crate::expects::Two;
+use crate::expects::Given;
 use crate::expects::numbers_at;
 use crate::forms;
 use crate::forms::expected;
 use crate::forms::is_number;
 use numbers::Number;
-use pond_look::Wanted;
 use pond_rows::row;
 
 // No tape has this word: it stands for a name that is not given.
@@ -27,8 +26,8 @@ pub enum Deed {
     Save(u64),
     Step(u64, u64),
     Open(u64, u64, usize),
-    Words(u64, Wanted),
-    Shared(Wanted),
+    Words(u64, Given),
+    Shared(Given),
     Wrong,
 }
 
@@ -45,32 +44,23 @@ pub fn read(form: u8, book: &[u8], tape: &[u8], n: u8) -> Deed {
         forms::BENCH => bench(numbers_at(form, tape, 1, 2)),
         forms::LOAD => load(book, row(tape, 1)),
         forms::OPEN => open(book, tape, n),
-        forms::SHARED => shared(numbers_at(form, tape, 1, n), n),
+        forms::SHARED => shared(numbers_at(form, tape, 1, n)),
         _ => of_session(form, book, tape, n),
     }
 }
 
-fn bench(p: Two) -> Deed {
+fn bench(p: Given) -> Deed {
     if p.ok {
         return Deed::Bench(p.first, p.second);
     }
     Deed::Wrong
 }
 
-fn shared(p: Two, n: u8) -> Deed {
+fn shared(p: Given) -> Deed {
     if p.ok {
-        return Deed::Shared(wanted(p, n));
+        return Deed::Shared(p);
     }
     Deed::Wrong
-}
-
-// The words that are wanted, where so many of FROM and COUNT are given.
-fn wanted(p: Two, count: u8) -> Wanted {
-    match count {
-        0 => Wanted::All,
-        1 => Wanted::From(p.first),
-        _ => Wanted::Part(p.first, p.second),
-    }
 }
 
 // A slot that is given as a number is that slot; a name is a new one, for the lowest slot that is free.
@@ -119,8 +109,7 @@ fn opened(book: &[u8], slot: &[u8], words: &[u8], name: usize) -> Deed {
 
 // The commands whose first word is a session. Its numbers are read before it.
 fn of_session(form: u8, book: &[u8], tape: &[u8], n: u8) -> Deed {
-    let count = counted(form, n);
-    let p = numbers_at(form, tape, 2, count);
+    let p = numbers_at(form, tape, 2, counted(form, n));
     if !p.ok {
         return Deed::Wrong;
     }
@@ -128,7 +117,7 @@ fn of_session(form: u8, book: &[u8], tape: &[u8], n: u8) -> Deed {
     if !s.ok {
         return Deed::Wrong;
     }
-    with_session(form, s.value, p, count)
+    with_session(form, s.value, p)
 }
 
 // How many numbers stand behind the session.
@@ -142,20 +131,20 @@ fn counted(form: u8, n: u8) -> u8 {
     n - 1
 }
 
-fn with_session(form: u8, session: u64, p: Two, count: u8) -> Deed {
+fn with_session(form: u8, session: u64, p: Given) -> Deed {
     match form {
         forms::SHOW => Deed::Show(session),
         forms::CLOSE => Deed::Close(session),
         forms::SAVE => Deed::Save(session),
         forms::TURN => Deed::Turn(session, p.first),
-        forms::STEP => Deed::Step(session, steps(p, count)),
-        _ => Deed::Words(session, wanted(p, count)),
+        forms::STEP => Deed::Step(session, steps(p)),
+        _ => Deed::Words(session, p),
     }
 }
 
 // One step where no number is given.
-fn steps(p: Two, count: u8) -> u64 {
-    if count == 0 {
+fn steps(p: Given) -> u64 {
+    if p.count == 0 {
         return 1;
     }
     p.first

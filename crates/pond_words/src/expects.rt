@@ -19,8 +19,10 @@ pub struct One {
     pub value: u64,
 }
 
-pub struct Two {
+// How many numbers are given, two at most, where all of them were numbers.
+pub struct Given {
     pub ok: bool,
+    pub count: u8,
     pub first: u64,
     pub second: u64,
 }
@@ -65,10 +67,11 @@ fn none() -> One {
 }
 
 // So many words, two at most, from word k of the tape on, as numbers. Of two that are none the first is told.
-pub fn numbers_at(form: u8, tape: &[u8], k: usize, count: u8) -> Two {
+pub fn numbers_at(form: u8, tape: &[u8], k: usize, count: u8) -> Given {
     match count {
-        0 => Two {
+        0 => Given {
             ok: true,
+            count: 0,
             first: 0,
             second: 0,
         },
@@ -85,22 +88,24 @@ fn after(k: usize) -> usize {
     k
 }
 
-fn first_of(a: One) -> Two {
-    Two {
+fn first_of(a: One) -> Given {
+    Given {
         ok: a.ok,
+        count: 1,
         first: a.value,
         second: 0,
     }
 }
 
-fn both(first: &[u8], second: &[u8], form: u8) -> Two {
+fn both(first: &[u8], second: &[u8], form: u8) -> Given {
     let a = number(first, form);
     if !a.ok {
         return first_of(a);
     }
     let b = number(second, form);
-    Two {
+    Given {
         ok: b.ok,
+        count: 2,
         first: a.value,
         second: b.value,
     }

@@ -135,6 +135,20 @@ fn among(least: u8, most: u8, n: u8) -> bool {
     bounds::both(least <= n, n <= most)
 }
 
+// What a script goes on after behind these words of `keep`: 1 a fault, 2 any failure, 0 where they cannot be followed.
+pub fn keeps(tape: &[u8], n: u8) -> u8 {
+    if !same(row(tape, 1), b"going") {
+        return 0;
+    }
+    if n == 1 {
+        return 1;
+    }
+    if bounds::both(n == 2, same(row(tape, 2), b"always")) {
+        return 2;
+    }
+    0
+}
+
 pub fn expected(form: u8) -> Outcome {
     pond_say::text(b"cannot follow that: expected ");
     pond_say::text(piece(&FORMS, form));

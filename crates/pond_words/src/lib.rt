@@ -7,5 +7,5 @@ pub mod forms;
 
 pub use deeds::Deed;
 pub use deeds::read;
-pub use expects::Two;
+pub use expects::Given;
 pub use expects::numbers_at;

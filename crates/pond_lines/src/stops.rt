@@ -1,5 +1,5 @@
 // What follows from how a line went: whether a script stops, and with which status it ends.
-// Above it: the lines. Below it: how the console speaks.
+// Above it: the console's loop over lines. Below it: how the console speaks.
 use pond_say::Outcome;
 
 // The line's status, and whether another line may follow.

@@ -1,19 +1,16 @@
 // A line of standard input as a command on the tape, and what is said of a line that is none.
-// Above it: the lines. Below it: what is typed, the words of the commands, and the commands that need no bench.
-use pond_say::Outcome;
+// Above it: the console, which follows it. Below it: what is typed, and the words of the commands.
 use pond_typed::is_command;
 use pond_words::forms;
 use text::front;
 
-// What stands for a command's form where there is none to follow: the line has no words; of its words it has been said why they cannot be followed; it is too
-// long; and the input cannot be read.
-const NOTHING: u8 = 200;
+// What stands for a command's form where there is none to follow: the line has no words; it cannot be followed, of which it has been said; and the input
+// cannot be read.
+pub const NOTHING: u8 = 200;
 
-const WRONG: u8 = 201;
+pub const WRONG: u8 = 201;
 
-const LONG: u8 = 202;
-
-const FAILED: u8 = 203;
+pub const FAILED: u8 = 202;
 
 // More words than a line can have, for words that cannot be followed.
 const NO_WORDS: usize = 10000;
@@ -92,9 +89,13 @@ pub fn behind(words: usize) -> u8 {
     (words - 1) as u8
 }
 
+// A line that does not fit is not followed at all: a command that is cut short is another command.
 fn to_follow(form: u8, words: usize, over: bool, failed: bool) -> u8 {
     if over {
-        return LONG;
+        pond_say::text(
+            b"cannot follow that: the line has more than 4096 bytes, and all of it is skipped\n",
+        );
+        return WRONG;
     }
     if failed {
         return FAILED;
@@ -111,26 +112,9 @@ fn kept_on(form: u8, tape: &[u8], n: u8, keep: u8) -> u8 {
     if form != forms::KEEP {
         return keep;
     }
-    let k = pond_alone::keeps(tape, n);
+    let k = forms::keeps(tape, n);
     if k == 0 {
         return keep;
     }
     k
-}
-
-// Follows a command that needs no bench. A line that does not fit is not followed at all: a command that is cut short is another command.
-pub fn followed(h: Heard, tape: &[u8]) -> Outcome {
-    let form = h.form;
-    match form {
-        NOTHING => Outcome::Done,
-        WRONG => Outcome::Typing,
-        FAILED => Outcome::File,
-        LONG => {
-            pond_say::text(
-                b"cannot follow that: the line has more than 4096 bytes, and all of it is skipped\n",
-            );
-            Outcome::Typing
-        }
-        _ => pond_alone::follow(form, tape, h.n),
-    }
 }
