@@ -1,18 +1,24 @@
 // Where commands come from: the program's arguments, or the lines of standard input until it ends.
 // Above it: the program. Below it: words and the commands.
 ghost use Prim.Native.Nat.{_-_, _≤_};
-use crate::commands;
-use crate::commands::Command;
-use crate::stops;
-use crate::stops::After;
 use libc::STDIN_FILENO;
 use pond_bench::Next;
+use pond_lines::heard;
+use pond_lines::heard::Heard;
+use pond_lines::stops;
 use pond_rows::row;
 use pond_say::Outcome;
 use pond_typed::Cut;
-use pond_typed::is_command;
+use pond_words::forms;
 use sound::Bench;
-use text::front;
+
+// The bench after a line, what a script goes on after from there on, the line's status, and whether another line may follow.
+struct After {
+    bench: Bench,
+    keep: u8,
+    status: u8,
+    more: bool,
+}
 
 // The program's arguments are one command.
 pub fn arguments() {
@@ -30,36 +36,21 @@ fn asked(tape: &[u8], c: Cut) -> Outcome {
     if !pond_say::went(w) {
         return w;
     }
-    let d = commands::named(tape);
-    if let Command::Other = d {
-        return no_bench(tape);
+    let form = forms::named(tape);
+    if forms::on_bench(form) {
+        return no_bench(row(tape, 0));
     }
-    commands::of_files(d, tape, behind(c.words))
+    pond_alone::follow(form, tape, heard::behind(c.words))
 }
 
 // A bench is the console's. A command on it that is given in the shell would find a new one, and leave nothing.
-fn no_bench(tape: &[u8]) -> Outcome {
-    let verb = row(tape, 0);
-    if pond_words::is_deed(verb) {
-        pond_say::text(
-            b"cannot follow that here: a bench lasts as long as the console. Start the console with no words and type ",
-        );
-        pond_say::path(verb);
-        pond_say::text(b" there, or put the lines into a file: pond < FILE\n");
-        return Outcome::Typing;
-    }
-    pond_words::unknown(verb)
-}
-
-// How many words stand behind the verb, and 200 where there are more.
-fn behind(words: usize) -> u8 {
-    if words == 0 {
-        return 0;
-    }
-    if 200 < words {
-        return 200;
-    }
-    (words - 1) as u8
+fn no_bench(verb: &[u8]) -> Outcome {
+    pond_say::text(
+        b"cannot follow that here: a bench lasts as long as the console. Start the console with no words and type ",
+    );
+    pond_say::path(verb);
+    pond_say::text(b" there, or put the lines into a file: pond < FILE\n");
+    Outcome::Typing
 }
 
 // The memory that every bench is lent, as much of it as it has words.
@@ -134,36 +125,18 @@ fn one_line(
     keep: u8,
     left: u64,
 ) -> After {
-    if typed {
-        pond_say::text(b"> ");
-    }
-    let mut room = io::buffer();
-    let line = pond_typed::read_line(&mut room);
-    let kept = front(&room, line.count);
-    if typed {
-        pond_say::forget();
-    } else {
-        stops::echo(kept, line.more, line.over);
-    }
     let mut tape = pond_rows::tape();
-    let words = tape_of(kept, &mut tape);
-    let next = obeyed(b, memory, store, book, &tape, words, line.over, line.failed);
-    let more = bounds::both(line.more, !stops::quits(&tape, words));
-    stops::settled(next, typed, stops::kept_on(&tape, words, keep), left, more)
-}
-
-// How many words the command has, and 0 where the line is none or its words cannot be followed, of which it has been said; then the first is left
-// out, so that the tape is no command.
-fn tape_of(kept: &[u8], tape: &mut [u8]) -> usize {
-    if !is_command(kept) {
-        return 0;
+    let h = heard::line(typed, &mut tape, keep);
+    let next = obeyed(b, memory, store, book, &tape, h);
+    let bench = next.bench;
+    let outcome = next.outcome;
+    let s = stops::settled(outcome, typed, h.keep, left, h.more);
+    After {
+        bench,
+        keep: h.keep,
+        status: s.status,
+        more: s.more,
     }
-    let c = pond_typed::words_of(kept, tape);
-    let w = pond_typed::wrong(c);
-    if pond_say::went(w) {
-        return c.words;
-    }
-    1000
 }
 
 fn obeyed(
@@ -172,33 +145,24 @@ fn obeyed(
     store: &mut [u8],
     book: &mut [u8],
     tape: &[u8],
-    words: usize,
-    over: bool,
-    failed: bool,
+    h: Heard,
 ) -> Next {
-    if over {
-        return skipped(b);
+    if forms::on_bench(h.form) {
+        return pond_deeds::follow(h.form, b, memory, store, book, tape, h.n);
     }
-    if failed {
-        return kept(b, Outcome::File);
+    Next {
+        bench: b,
+        outcome: apart(h, tape),
     }
-    if words == 0 {
-        return kept(b, Outcome::Done);
-    }
-    if words == 1000 {
-        return kept(b, Outcome::Typing);
-    }
-    commands::follow(b, memory, store, book, tape, behind(words))
 }
 
-fn kept(bench: Bench, outcome: Outcome) -> Next {
-    Next { bench, outcome }
-}
-
-// A line that does not fit is not followed at all: a command that is cut short is another command.
-fn skipped(b: Bench) -> Next {
-    pond_say::text(
-        b"cannot follow that: the line has more than 4096 bytes, and all of it is skipped\n",
-    );
-    kept(b, Outcome::Typing)
+// A command that needs no bench, or a line that is none.
+fn apart(h: Heard, tape: &[u8]) -> Outcome {
+    let form = h.form;
+    match form {
+        heard::NOTHING => Outcome::Done,
+        heard::WRONG => Outcome::Typing,
+        heard::FAILED => Outcome::File,
+        _ => pond_alone::follow(form, tape, h.n),
+    }
 }

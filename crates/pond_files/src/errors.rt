@@ -1,5 +1,6 @@
 // Why a file could not be read or written, in a plain sentence for each error's number.
 // Above it: the commands on files. Below it: how the console speaks.
+use text::line;
 
 // The last line of a command that failed on a file, as `cannot read NAME: why`.
 pub fn cannot(what: &[u8], path: &[u8], error: i32) {
@@ -20,48 +21,44 @@ pub fn cannot_be(path: &[u8], why: &[u8]) {
 }
 
 fn why(error: i32) {
+    let k = known(error);
+    if k == 0 {
+        other(error);
+    }
+    pond_say::text(line(
+        b"\n\
+          no permission\n\
+          no such file or folder\n\
+          it is closed\n\
+          the file with .pond-new behind that name is in the way, left by a run that was cut short; remove it\n\
+          a part of the name is a file and not a folder\n\
+          it is a folder\n\
+          the name holds a byte that no name can hold\n\
+          the disk is full\n\
+          it would be larger than a file may be\n\
+          the disk or the device failed\n\
+          the disk is read-only\n\
+          the name is too long",
+        k,
+    ));
+}
+
+// Which line of that page has the error's sentence; line 0, which is empty, where none has.
+fn known(error: i32) -> u8 {
     match error {
-        libc::EPERM | libc::EACCES => {
-            pond_say::text(b"no permission");
-        }
-        libc::ENOENT => {
-            pond_say::text(b"no such file or folder");
-        }
-        libc::EBADF => {
-            pond_say::text(b"it is closed");
-        }
-        libc::EEXIST => {
-            pond_say::text(
-                b"the file with .pond-new behind that name is in the way, left by a run that was cut short; remove it",
-            );
-        }
-        libc::ENOTDIR => {
-            pond_say::text(b"a part of the name is a file and not a folder");
-        }
-        libc::EISDIR => {
-            pond_say::text(b"it is a folder");
-        }
-        libc::EINVAL => {
-            pond_say::text(b"the name holds a byte that no name can hold");
-        }
-        libc::ENOSPC => {
-            pond_say::text(b"the disk is full");
-        }
-        libc::EFBIG => {
-            pond_say::text(b"it would be larger than a file may be");
-        }
-        libc::EIO => {
-            pond_say::text(b"the disk or the device failed");
-        }
-        libc::EROFS => {
-            pond_say::text(b"the disk is read-only");
-        }
-        libc::ENAMETOOLONG => {
-            pond_say::text(b"the name is too long");
-        }
-        _ => {
-            other(error);
-        }
+        libc::EPERM | libc::EACCES => 1,
+        libc::ENOENT => 2,
+        libc::EBADF => 3,
+        libc::EEXIST => 4,
+        libc::ENOTDIR => 5,
+        libc::EISDIR => 6,
+        libc::EINVAL => 7,
+        libc::ENOSPC => 8,
+        libc::EFBIG => 9,
+        libc::EIO => 10,
+        libc::EROFS => 11,
+        libc::ENAMETOOLONG => 12,
+        _ => 0,
     }
 }
 

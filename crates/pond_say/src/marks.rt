@@ -9,23 +9,16 @@ const CTRL_C: i32 = 8;
 
 // Leaves a status for the wrapper, which takes the highest that it finds.
 pub fn leave(status: u8) {
-    match status {
-        0 => {
-            io::write_all(STATUS, b"0");
-        }
-        1 => {
-            io::write_all(STATUS, b"1");
-        }
-        2 => {
-            io::write_all(STATUS, b"2");
-        }
-        3 => {
-            io::write_all(STATUS, b"3");
-        }
-        _ => {
-            io::write_all(STATUS, b"4");
-        }
+    let one = [digit(status)];
+    io::write_all(STATUS, &one);
+}
+
+// No status is above 4.
+fn digit(status: u8) -> u8 {
+    if 4 < status {
+        return b'4';
     }
+    b'0' + status
 }
 
 // Whether something was left before the end: then standard output could not be written.

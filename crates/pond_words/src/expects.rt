@@ -1,7 +1,9 @@
-// What is said of words that cannot be followed, and the numbers and names read from words.
-// Above it: the console and the commands here. Below it: the book of names, and how the console speaks.
-use pond_say::Outcome;
-use text::Number;
+// Numbers and names read from words, and what is said where they cannot be.
+// Above it: the commands. Below it: the book of names, and how the console speaks.
+use crate::forms::expected;
+use numbers::Number;
+use numbers::number_of;
+use pond_rows::row;
 
 // The first rows of the names of sessions and of slots.
 const SESSIONS: usize = 0;
@@ -17,96 +19,138 @@ pub struct One {
     pub value: u64,
 }
 
-pub struct Two {
+// How many numbers are given, two at most, where all of them were numbers.
+pub struct Given {
     pub ok: bool,
+    pub count: u8,
     pub first: u64,
     pub second: u64,
 }
 
-pub fn expected(form: &[u8]) -> Outcome {
-    pond_say::text(b"cannot follow that: expected ");
-    pond_say::text(form);
-    pond_say::end();
-    Outcome::Typing
+// Says a sentence with a word in it.
+fn around(before: &[u8], word: &[u8], behind: &[u8]) {
+    pond_say::text(before);
+    pond_say::path(word);
+    pond_say::text(behind);
 }
 
-pub fn unknown(verb: &[u8]) -> Outcome {
-    pond_say::text(b"cannot follow that: no command is called ");
-    pond_say::path(verb);
-    pond_say::text(b"; help lists them\n");
-    Outcome::Typing
+// A word of a command, as a number.
+pub fn number(word: &[u8], form: u8) -> One {
+    let n = number_of(word);
+    if let Number::Not = n {
+        expected(form);
+    }
+    value(n, word)
 }
 
-// A word of a command whose form is given, as a number.
-pub fn number(word: &[u8], form: &[u8]) -> One {
-    let n = text::number_of(word);
+// What a word says as a number. Of one that is none nothing is said here.
+pub fn value(n: Number, word: &[u8]) -> One {
     match n {
         Number::Value(value) => One { ok: true, value },
-        Number::Beyond => beyond(word),
-        Number::Not => {
-            expected(form);
+        Number::Beyond => {
+            around(
+                b"cannot follow that: ",
+                word,
+                b" is past 64 bits: the largest number is 18446744073709551615\n",
+            );
             none()
         }
+        Number::Not => none(),
     }
 }
 
-pub fn none() -> One {
+fn none() -> One {
     One {
         ok: false,
         value: 0,
     }
 }
 
-fn beyond(word: &[u8]) -> One {
-    pond_say::text(b"cannot follow that: ");
-    pond_say::path(word);
-    pond_say::text(b" is past 64 bits: the largest number is 18446744073709551615\n");
-    none()
+// So many words, two at most, from word k of the tape on, as numbers. Of two that are none the first is told.
+pub fn numbers_at(form: u8, tape: &[u8], k: usize, count: u8) -> Given {
+    match count {
+        0 => Given {
+            ok: true,
+            count: 0,
+            first: 0,
+            second: 0,
+        },
+        1 => first_of(number(row(tape, k), form)),
+        _ => both(row(tape, k), row(tape, after(k)), form),
+    }
 }
 
-// Whether a word is written as a number, even one past 64 bits.
-pub fn is_number(word: &[u8]) -> bool {
-    let n = text::number_of(word);
-    match n {
-        Number::Not => false,
-        _ => true,
+// The word behind word k: only the first few are ever asked for.
+fn after(k: usize) -> usize {
+    if k < 7 {
+        return k + 1;
+    }
+    k
+}
+
+fn first_of(a: One) -> Given {
+    Given {
+        ok: a.ok,
+        count: 1,
+        first: a.value,
+        second: 0,
+    }
+}
+
+fn both(first: &[u8], second: &[u8], form: u8) -> Given {
+    let a = number(first, form);
+    if !a.ok {
+        return first_of(a);
+    }
+    let b = number(second, form);
+    Given {
+        ok: b.ok,
+        count: 2,
+        first: a.value,
+        second: b.value,
     }
 }
 
 // The session of a number, open or not, or of a name.
 pub fn session(book: &[u8], word: &[u8]) -> One {
-    if is_number(word) {
-        return number(word, b"");
+    let n = number_of(word);
+    if let Number::Not = n {
+        let s = found(book, SESSIONS, word);
+        if !s.ok {
+            around(
+                b"cannot follow that: no session is called ",
+                word,
+                b"; map lists those that are open\n",
+            );
+        }
+        return s;
     }
-    let i = pond_rows::find(book, SESSIONS, word);
-    if i < 16 {
-        return One {
-            ok: true,
-            value: i as u64,
-        };
-    }
-    pond_say::text(b"cannot follow that: no session is called ");
-    pond_say::path(word);
-    pond_say::text(b"; map lists those that are open\n");
-    none()
+    value(n, word)
 }
 
 // The slot of a number, loaded or not, or of a name.
 pub fn slot(book: &[u8], word: &[u8]) -> One {
-    if is_number(word) {
-        return number(word, b"");
+    let n = number_of(word);
+    if let Number::Not = n {
+        let s = found(book, SLOTS, word);
+        if !s.ok {
+            around(
+                b"cannot follow that: no slot is called ",
+                word,
+                b"; slots lists those that are loaded\n",
+            );
+        }
+        return s;
     }
-    let i = pond_rows::find(book, SLOTS, word);
-    if i < 16 {
-        return One {
-            ok: true,
-            value: i as u64,
-        };
+    value(n, word)
+}
+
+fn found(book: &[u8], first: usize, word: &[u8]) -> One {
+    let i = pond_rows::find(book, first, word);
+    One {
+        ok: i < 16,
+        value: i as u64,
     }
-    pond_say::text(b"cannot follow that: no slot is called ");
-    pond_say::path(word);
-    pond_say::text(b"; slots lists those that are loaded\n");
-    none()
 }
 
 // Whether a session, or a slot, can be given this name; else it has been said why not.
@@ -131,26 +175,6 @@ fn fresh(book: &[u8], first: usize, word: &[u8], taken: &[u8]) -> bool {
     if pond_rows::find(book, first, word) == 16 {
         return true;
     }
-    pond_say::text(taken);
-    pond_say::path(word);
-    pond_say::text(b" already\n");
+    around(taken, word, b" already\n");
     false
-}
-
-// Two words as numbers. Of two that are none the first is told.
-pub fn both(first: &[u8], second: &[u8], form: &[u8]) -> Two {
-    let a = number(first, form);
-    if !a.ok {
-        return Two {
-            ok: false,
-            first: 0,
-            second: 0,
-        };
-    }
-    let b = number(second, form);
-    Two {
-        ok: b.ok,
-        first: a.value,
-        second: b.value,
-    }
 }

@@ -1,12 +1,11 @@
-// The words of the commands on a bench: which command, and the numbers and names among its words; what is said of words that cannot be followed.
-// Above it: the console. Below it: `pond_bench`, which asks the bench. A command comes on a tape: its verb is word 0, and n words stand behind it.
-mod desks;
+// The words of the commands: which command it is, and the numbers and names among its words; what is said of words that cannot be followed.
+// Above it: what does the commands. Below it: the names that are kept, and how the console speaks. No bench is here.
+// A command comes on a tape: its verb is word 0, and n words stand behind it.
+mod deeds;
 mod expects;
-mod sizes;
+pub mod forms;
 
-pub use desks::follow;
-pub use desks::is_deed;
-pub use expects::expected;
-pub use expects::is_number;
-pub use expects::unknown;
-pub use sizes::run;
+pub use deeds::Deed;
+pub use deeds::read;
+pub use expects::Given;
+pub use expects::numbers_at;

@@ -1,4 +1,3 @@
 -- The laws of this crate, a module each; the proof of a function stands in a folder of its name.
 pub mod Runs
 pub mod Copies
-pub mod Values

@@ -1,12 +1,13 @@
-// Bytes that are typed and shown: words of a line, numbers, parts and joins, what is seen of a name. Each function is proved to be its definition.
+// Bytes that are typed and shown: words of a line, parts and joins, what is seen of a name, many texts in one. Each function but those on texts in
+// one is proved to be its definition.
 // Above it: the console, which reads and prints. Below it: nothing.
-mod numbers;
+mod pieces;
 mod shown;
 mod slices;
 mod words;
 
-pub use numbers::Number;
-pub use numbers::number_of;
+pub use pieces::line;
+pub use pieces::piece;
 pub use shown::visible;
 pub use slices::front;
 pub use slices::joined;
