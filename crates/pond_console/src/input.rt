@@ -1,14 +1,12 @@
-// Where commands come from: the program's arguments, or the lines of standard input until it ends.
-// Above it: the program. Below it: words and the commands.
+// The lines of standard input until it ends, each followed on the console's bench.
+// Above it: the program. Below it: a line heard, and the commands.
 ghost use Prim.Native.Nat.{_-_, _≤_};
 use libc::STDIN_FILENO;
 use pond_bench::Next;
 use pond_lines::heard;
 use pond_lines::heard::Heard;
 use pond_lines::stops;
-use pond_rows::row;
 use pond_say::Outcome;
-use pond_typed::Cut;
 use pond_words::forms;
 use sound::Bench;
 
@@ -18,39 +16,6 @@ struct After {
     keep: u8,
     status: u8,
     more: bool,
-}
-
-// The program's arguments are one command.
-pub fn arguments() {
-    let mut tape = pond_rows::tape();
-    let c = pond_typed::arguments(&mut tape);
-    let o = asked(&tape, c);
-    pond_say::leave(pond_say::status(o));
-}
-
-fn asked(tape: &[u8], c: Cut) -> Outcome {
-    if c.unclosed {
-        return Outcome::Typing;
-    }
-    let w = pond_typed::wrong(c);
-    if !pond_say::went(w) {
-        return w;
-    }
-    let form = forms::named(tape);
-    if forms::on_bench(form) {
-        return no_bench(row(tape, 0));
-    }
-    pond_alone::follow(form, tape, heard::behind(c.words))
-}
-
-// A bench is the console's. A command on it that is given in the shell would find a new one, and leave nothing.
-fn no_bench(verb: &[u8]) -> Outcome {
-    pond_say::text(
-        b"cannot follow that here: a bench lasts as long as the console. Start the console with no words and type ",
-    );
-    pond_say::path(verb);
-    pond_say::text(b" there, or put the lines into a file: pond < FILE\n");
-    Outcome::Typing
 }
 
 // The memory that every bench is lent, as much of it as it has words.

@@ -5,5 +5,5 @@
 // one that could not be followed, as where a file cannot be read, with `cannot`; no other line begins so.
 mod input;
 
-pub use input::arguments;
 pub use input::script;
+pub use pond_alone::arguments;
