@@ -28,9 +28,11 @@ fn written(region: &[u16], book: &[u8], i: usize, file: &[u8]) -> Outcome {
         return Outcome::File;
     }
     told::session(book, i);
-    pond_say::text(b": ");
-    told::span(1, told::less(region.len(), 1));
-    pond_say::text(b" written to ");
+    told::span(
+        b": words # to # written to ",
+        1,
+        told::less(region.len(), 1),
+    );
     pond_say::path(file);
     pond_say::end();
     Outcome::Done
@@ -48,25 +50,26 @@ fn lines(region: &[u16], room: &mut [u8]) -> usize {
 }
 
 fn line(room: &mut [u8], at: usize, i: u64, w: u16) -> usize {
-    let a = decimal(room, at, i, b",");
-    let b = decimal(room, a, w as u64, b",");
+    let a = decimal(room, at, i);
+    let b = decimal(room, a, w as u64);
     let c = signed(room, b, w);
     hex(room, c, w)
 }
 
-fn decimal(room: &mut [u8], at: usize, n: u64, behind: &[u8]) -> usize {
+// A number, and a comma behind it.
+fn decimal(room: &mut [u8], at: usize, n: u64) -> usize {
     let mut digits = [0u8; 20];
     let k = io::decimal(n, &mut digits);
     let end = put(room, at, &digits[..k]);
-    put(room, end, behind)
+    one(room, end, b',')
 }
 
 fn signed(room: &mut [u8], at: usize, w: u16) -> usize {
     if w < 32768 {
-        return decimal(room, at, w as u64, b",");
+        return decimal(room, at, w as u64);
     }
-    let begun = put(room, at, b"-");
-    decimal(room, begun, 65536 - w as u64, b",")
+    let begun = one(room, at, b'-');
+    decimal(room, begun, 65536 - w as u64)
 }
 
 fn hex(room: &mut [u8], at: usize, w: u16) -> usize {
@@ -95,12 +98,16 @@ fn put(room: &mut [u8], at: usize, bytes: &[u8]) -> usize {
     let mut to = at;
     let mut i: usize = 0;
     while i < bytes.len() {
-        if room.len() <= to {
-            break;
-        }
-        room[to] = bytes[i];
-        to += 1;
+        to = one(room, to, bytes[i]);
         i += 1;
     }
     to
+}
+
+fn one(room: &mut [u8], at: usize, byte: u8) -> usize {
+    if at < room.len() {
+        room[at] = byte;
+        return at + 1;
+    }
+    at
 }

@@ -2,6 +2,7 @@
 // Above it: the console, and run. Below it: the bench's numbers.
 use crate::refusals;
 use crate::told;
+use pond_phrases::say;
 use pond_say::Outcome;
 use sound::Bench;
 
@@ -32,9 +33,7 @@ pub fn words(b: Bench, memory: &[u16], book: &[u8], session: u64, wanted: Wanted
     }
     cannot(wanted);
     told::session(book, i);
-    pond_say::text(b" has ");
-    told::span(1, told::less(own.len(), 1));
-    pond_say::end();
+    told::span(b" has words # to #\n", 1, told::less(own.len(), 1));
     Outcome::Typing
 }
 
@@ -62,32 +61,22 @@ fn shared_are(n: usize) {
         pond_say::text(b"no words are shared\n");
         return;
     }
-    told::span(0, n);
-    pond_say::text(b" are shared\n");
+    told::span(b"words # to # are shared\n", 0, n);
 }
 
 // `cannot show 5 words from word 98 on: `
 fn cannot(wanted: Wanted) {
-    pond_say::text(b"cannot show ");
     match wanted {
         Wanted::All => {
-            pond_say::text(b"words: ");
+            pond_say::text(b"cannot show words: ");
         }
         Wanted::From(from) => {
-            pond_say::text(b"words");
-            cannot_from(from);
+            say(b"cannot show words from word # on: ", from, 0, 0);
         }
         Wanted::Part(from, count) => {
-            told::counted(count, b" word");
-            cannot_from(from);
+            say(b"cannot show # word% from word # on: ", count, count, from);
         }
     }
-}
-
-fn cannot_from(from: u64) {
-    pond_say::text(b" from word ");
-    pond_say::number(from);
-    pond_say::text(b" on: ");
 }
 
 // Shows the words that are wanted, the first of which is word low; answers whether they are there.

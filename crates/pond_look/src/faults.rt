@@ -36,11 +36,7 @@ pub fn reason(b: Bench, memory: &[u16], store: &[u8], se: Session) -> Outcome {
 }
 
 fn line(seg: &[u8], region: &[u16], shared: usize, regs: Regs, number: u8, place: usize) {
-    pond_say::text(b"fault ");
-    pond_say::number(number as u64);
-    pond_say::text(b" at byte ");
-    pond_say::number(place as u64);
-    pond_say::text(b": ");
+    pond_phrases::say(b"fault # at byte #: ", number as u64, place as u64, 0);
     pond_why::reason(seg, region, shared, regs, number, place);
     pond_say::end();
 }

@@ -3,6 +3,7 @@
 mod contents;
 pub mod faults;
 mod maps;
+mod nexts;
 pub mod refusals;
 pub mod told;
 
@@ -10,3 +11,4 @@ pub use contents::Wanted;
 pub use contents::shared;
 pub use contents::words;
 pub use maps::map;
+pub use nexts::Next;

@@ -10,8 +10,7 @@ pub fn map(b: Bench, book: &[u8]) {
         return;
     }
     if b.s > 0 {
-        told::span(0, b.s);
-        pond_say::text(b": shared\n");
+        told::span(b"words # to #: shared\n", 0, b.s);
     }
     lines(b, book, b.s, b.n);
 }
@@ -42,21 +41,15 @@ fn line(b: Bench, book: &[u8], at: usize, n: usize) -> usize {
 // `words 8 to 39: session 0 north, finished, from north.seg`
 fn owned(b: Bench, book: &[u8], i: usize) -> usize {
     let se = told::record(b, i);
-    told::span(se.base, se.len);
-    pond_say::text(b": ");
+    told::span(b"words # to #: ", se.base, se.len);
     told::session(book, i);
     pond_say::text(b", ");
-    let cpu = se.cpu;
-    let kind = cpu.kind;
-    told::kind(kind);
-    told::from(book, se.slot);
-    pond_say::end();
+    told::stands(book, se);
     told::past(se.base, se.len)
 }
 
 fn free(at: usize, next: usize) {
-    told::span(at, told::less(next, at));
-    pond_say::text(b": free\n");
+    told::span(b"words # to #: free\n", at, told::less(next, at));
 }
 
 // The session whose region begins at word at, or 16.

@@ -1,5 +1,5 @@
-// The sentence of a check that failed: which module says it, and the phrases that several share.
-// Above it: the entry. Below it: how the console speaks. Nothing here decides.
+// The sentence of a check that failed: which row it stands in, and how it is said.
+// Above it: the entry. Below it: the rows of sentences. Nothing here decides.
 use crate::said_flow;
 use crate::said_places;
 use crate::said_stack;
@@ -7,6 +7,16 @@ use cause::Code;
 use cause::Numbers;
 use cause::Why;
 use cause::less;
+
+// A sentence: its place in a row, and the numbers at its marks, in order.
+pub struct Told {
+    pub k: u8,
+    pub a: usize,
+    pub b: usize,
+    pub c: usize,
+    pub d: usize,
+    pub e: usize,
+}
 
 pub fn why(n: Numbers, w: Why) {
     match w {
@@ -29,49 +39,54 @@ pub fn why(n: Numbers, w: Why) {
     }
 }
 
-fn code(n: Numbers, c: Code) {
-    match c {
-        Code::Begins => {
-            told(b"the instruction would begin at byte ", n.counter as usize);
-            code_is(n);
-        }
-        Code::Ends(missing) => {
-            told(b"the instruction needs byte ", missing);
-            told(b", and the segment ends at byte ", less(n.code as usize, 1));
-        }
-        Code::Uncarried(first) => {
-            pond_say::text(b"its first byte, ");
-            pond_say::hex(first as u64, 2);
-            pond_say::text(
-                b" hex, is no instruction that the runner carries; it has no reals, sets, strings, packed fields, long integers or calls to other segments",
-            );
-        }
-        Code::Level(x) => {
-            told(b"its DB operand is ", x as usize);
-            pond_say::text(b", and at most 127 is lawful");
-        }
+// A sentence of a row, with its numbers.
+pub fn sentence(row: &[u8], t: Told) {
+    let all = pond_phrases::piece(row, t.k);
+    let rest = pond_phrases::begun(all, t.a as u64, t.b as u64, t.c as u64);
+    pond_phrases::say(rest, t.d as u64, t.e as u64, 0);
+}
+
+// A sentence with up to two numbers, and one with up to four.
+pub fn two(k: u8, a: usize, b: usize) -> Told {
+    four(k, a, b, 0, 0)
+}
+
+pub fn four(k: u8, a: usize, b: usize, c: usize, d: usize) -> Told {
+    Told {
+        k,
+        a,
+        b,
+        c,
+        d,
+        e: 0,
     }
 }
 
-// A phrase and its number.
-pub fn told(phrase: &[u8], number: usize) {
-    pond_say::text(phrase);
-    pond_say::number(number as u64);
+// The end of a range, or 0 where it is its beginning.
+pub fn end(low: usize, high: usize) -> usize {
+    if low == high {
+        return 0;
+    }
+    high
 }
 
-// From one number to another.
-pub fn to(low: usize, high: usize) {
-    pond_say::number(low as u64);
-    told(b" to ", high);
+fn code(n: Numbers, c: Code) {
+    sentence(
+        b"the instruction would begin at byte #, and the code is bytes 22 to #|\
+          the instruction needs byte #, and the segment ends at byte #|\
+          its first byte, ^ hex, is no instruction that the runner carries; it has no reals, sets, strings, packed fields, long integers or calls \
+          to other segments|\
+          its DB operand is #, and at most 127 is lawful",
+        of_code(n, c),
+    );
 }
 
-pub fn code_is(n: Numbers) {
-    pond_say::text(b", and the code is bytes ");
-    to(22, less(n.code as usize, 1));
-}
-
-// The words of the region that have an address.
-pub fn words_are(n: Numbers) {
-    pond_say::text(b"; the report has words ");
-    to(1, less(n.len as usize, 1));
+fn of_code(n: Numbers, c: Code) -> Told {
+    let last = less(n.code as usize, 1);
+    match c {
+        Code::Begins => two(0, n.counter as usize, last),
+        Code::Ends(missing) => two(1, missing, last),
+        Code::Uncarried(first) => two(2, first as usize, 0),
+        Code::Level(x) => two(3, x as usize, 0),
+    }
 }

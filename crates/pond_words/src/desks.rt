@@ -122,7 +122,7 @@ fn anew(b: Bench, memory: &mut [u16], book: &mut [u8], tape: &[u8], n: u8) -> Ne
     }
     let p = expects::both(row(tape, 1), row(tape, 2), form);
     if p.ok {
-        return pond_bench::new_bench(b, memory, book, p.first, p.second);
+        return pond_slots::new_bench(b, memory, book, p.first, p.second);
     }
     kept(b, Outcome::Typing)
 }
@@ -170,7 +170,7 @@ fn seen(
 
 fn fill(b: Bench, memory: &mut [u16], tape: &[u8], n: u8) -> Next {
     if n == 1 {
-        let outcome = pond_bench::fill(b, memory, row(tape, 1));
+        let outcome = pond_slots::fill(b, memory, row(tape, 1));
         return kept(b, outcome);
     }
     kept(b, expected(b"fill FILE"))
@@ -185,12 +185,12 @@ fn load(b: Bench, memory: &[u16], store: &mut [u8], book: &mut [u8], tape: &[u8]
     if expects::is_number(slot) {
         let a = number(slot, b"");
         if a.ok {
-            return pond_bench::load(b, memory, store, book, a.value, b"", row(tape, 2));
+            return pond_slots::load(b, memory, store, book, a.value, b"", row(tape, 2));
         }
         return kept(b, Outcome::Typing);
     }
     if expects::new_slot(book, slot) {
-        return pond_bench::load_named(b, memory, store, book, slot, row(tape, 2));
+        return pond_slots::load_named(b, memory, store, book, slot, row(tape, 2));
     }
     kept(b, Outcome::Typing)
 }
@@ -346,6 +346,6 @@ fn slots(b: Bench, store: &[u8], book: &[u8], n: u8) -> Outcome {
     if n != 0 {
         return expected(b"slots");
     }
-    pond_bench::slots(b, store, book);
+    pond_slots::slots(b, store, book);
     Outcome::Done
 }

@@ -1,10 +1,12 @@
 // `load SLOT FILE`: a segment from a file into a slot; and `slots`, what is loaded.
 // Above it: the console, and run. Below it: the bench and files.
-use crate::nexts::Next;
 use bench::Answer;
 use pond_files::Whole;
+use pond_look::Next;
 use pond_look::refusals;
 use pond_look::told;
+use pond_phrases::begun;
+use pond_phrases::say;
 use pond_say::Outcome;
 use sound::Bench;
 use sound::Slot;
@@ -12,7 +14,7 @@ use sound::Slot;
 // The bytes of the store that are for one slot: one more word than the longest segment has, so that a longer file is told from it.
 const AREA: usize = 65536;
 
-// The file is read only where its slot can be loaded, so that no loaded segment is overwritten.
+// The file is read only where its slot can be loaded, so that no loaded segment is overwritten. Where it cannot, the entry refuses whatever is asked.
 pub fn load(
     b: Bench,
     memory: &[u16],
@@ -23,10 +25,15 @@ pub fn load(
     file: &[u8],
 ) -> Next {
     let i = slot as usize;
-    if !free(b, i) {
-        return asked(b, memory, store, book, name, file, i, 0, 0);
+    let start = area(i);
+    let got = read(store, file, start, free(b, i));
+    if !got.ok {
+        return Next {
+            bench: b,
+            outcome: Outcome::File,
+        };
     }
-    read(b, memory, store, book, name, file, i)
+    asked(b, memory, store, book, name, file, i, start, got.count)
 }
 
 // Whether there is such a slot, and it is not loaded.
@@ -53,7 +60,7 @@ pub fn load_named(
             outcome: Outcome::Refused,
         };
     }
-    read(b, memory, store, book, name, file, i)
+    load(b, memory, store, book, i as u64, name, file)
 }
 
 // The lowest slot that is not loaded, or 16.
@@ -69,26 +76,6 @@ fn lowest(slots: [Slot; 16]) -> usize {
     16
 }
 
-fn read(
-    b: Bench,
-    memory: &[u16],
-    store: &mut [u8],
-    book: &mut [u8],
-    name: &[u8],
-    file: &[u8],
-    i: usize,
-) -> Next {
-    let start = area(i);
-    let got = read_area(store, file, start);
-    if !got.ok {
-        return Next {
-            bench: b,
-            outcome: Outcome::File,
-        };
-    }
-    asked(b, memory, store, book, name, file, i, start, got.count)
-}
-
 // Where the bytes of a slot begin.
 fn area(i: usize) -> usize {
     if 15 < i {
@@ -97,11 +84,14 @@ fn area(i: usize) -> usize {
     AREA * i
 }
 
-fn read_area(store: &mut [u8], file: &[u8], start: usize) -> Whole {
+// The file into the bytes from start on, where the slot is free.
+fn read(store: &mut [u8], file: &[u8], start: usize, free: bool) -> Whole {
     let end = told::past(start, AREA);
-    if start <= end {
-        if end <= store.len() {
-            return pond_files::read(file, &mut store[start..end]);
+    if free {
+        if start <= end {
+            if end <= store.len() {
+                return pond_files::read(file, &mut store[start..end]);
+            }
         }
     }
     Whole { ok: true, count: 0 }
@@ -127,9 +117,7 @@ pub fn asked(
             pond_rows::put(book, pond_rows::file_row(i), file);
             loaded(book, i, bounds::code_of(store, start, len))
         }
-        Answer::Refused(number, place) => {
-            refusals::of_slot(number, place, i as u64, b" is loaded already\n")
-        }
+        Answer::Refused(number, place) => { refusals::is_loaded(number, place, i as u64) }
     };
     Next { bench, outcome }
 }
@@ -139,17 +127,15 @@ fn loaded(book: &[u8], i: usize, seg: &[u8]) -> Outcome {
     told::slot_of(book, i);
     pond_say::text(b": ");
     pond_say::path(pond_rows::file_of(book, i));
-    pond_say::text(b", ");
     sizes(seg);
     Outcome::Done
 }
 
 fn sizes(seg: &[u8]) {
-    told::counted(seg.len() as u64, b" byte");
-    pond_say::text(b", ");
+    let n = seg.len() as u64;
     let h = segment::head(seg);
-    told::counted(h.count as u64, b" routine");
-    pond_say::end();
+    let rest = begun(b", # byte%, # routine%\n", n, n, h.count as u64);
+    say(rest, h.count as u64, 0, 0);
 }
 
 // `slots`: a line for each slot that is loaded.

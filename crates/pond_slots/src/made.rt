@@ -1,8 +1,7 @@
 // `bench N S`: a new bench, in place of the one before.
 // Above it: the console. Below it: the bench.
-use crate::nexts::Next;
 use bench::Answer;
-use pond_look::told;
+use pond_look::Next;
 use pond_say::Outcome;
 use sound::Bench;
 
@@ -29,11 +28,7 @@ pub fn new_bench(b: Bench, memory: &mut [u16], book: &mut [u8], n: u64, s: u64) 
 }
 
 fn said(n: u64, s: u64) {
-    pond_say::text(b"bench: ");
-    told::counted(n, b" word");
-    pond_say::text(b", ");
-    pond_say::number(s);
-    pond_say::text(b" of them shared\n");
+    pond_phrases::say(b"bench: # word%, # of them shared\n", n, n, s);
 }
 
 fn clear(memory: &mut [u16]) {

@@ -4,8 +4,8 @@ use mathlib.Core.Path.{_≡_, refl, _∙_}
 use native.Mathlib.Omega.{arith}
 use borrow.Author.Needs.{needs}
 use lib.ListN.{length, length-set}
-use Rattle.pond_bench.proofs.made.clear.Statement.{statement}
-use Rattle.pond_bench.proofs.made.clear.Tie as tie
+use Rattle.pond_slots.proofs.made.clear.Statement.{statement}
+use Rattle.pond_slots.proofs.made.clear.Tie as tie
 
 abbrev Inv-loop : tie.InvT-loop
 Inv-loop memory₀ i₀ memory i = (i ≤ length memory₀) × (length memory ≡ length memory₀)

@@ -1,8 +1,8 @@
--- `loads::lowest_loaded` is safe and ends. The measure is what is left to go through. Assumes nothing.
+-- `loads::lowest` is safe and ends. The measure is what is left to go through. Assumes nothing.
 use borrow.Author.Needs.{needs}
 use Prim.Native.Nat.{_-_}
-use Rattle.pond_bench.proofs.loads.lowest_loaded.Statement.{statement}
-use Rattle.pond_bench.proofs.loads.lowest_loaded.Tie as tie
+use Rattle.pond_slots.proofs.loads.lowest.Statement.{statement}
+use Rattle.pond_slots.proofs.loads.lowest.Tie as tie
 
 abbrev Inv-loop : tie.InvT-loop
 Inv-loop slots i₀ i = Unit {0}
@@ -34,8 +34,8 @@ loop-again c = search needs
 returns-2 : tie.Need-returns-2 Inv-loop μ-loop
 returns-2 c = search needs
 
-pub lowest-loaded-spec : {M : Type 1} → statement M
-lowest-loaded-spec =
+pub lowest-spec : {M : Type 1} → statement M
+lowest-spec =
     tie.close
     (tie.spec
     Inv-loop

@@ -3,8 +3,8 @@ use borrow.Author.Needs.{needs}
 use Prim.Native.Nat.{_≤_, _-_}
 use mathlib.Core.Path.{_≡_}
 use lib.ListN.{length}
-use Rattle.pond_bench.proofs.fills.pour.Statement.{statement}
-use Rattle.pond_bench.proofs.fills.pour.Tie as tie
+use Rattle.pond_slots.proofs.fills.pour.Statement.{statement}
+use Rattle.pond_slots.proofs.fills.pour.Tie as tie
 
 abbrev Inv-loop : tie.InvT-loop
 Inv-loop part₀ bytes i₀ part i = (i ≤ length part₀) × (length part ≡ length part₀)

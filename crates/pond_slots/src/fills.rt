@@ -1,6 +1,9 @@
 // `fill FILE`: the shared words from a file, two bytes a word, least byte first.
 // Above it: the console. Below it: files.
 use pond_look::told;
+use pond_phrases::begun;
+use pond_phrases::piece;
+use pond_phrases::say;
 use pond_say::Outcome;
 use sound::Bench;
 use text::front;
@@ -61,40 +64,41 @@ fn word(bytes: &[u8], i: usize) -> u16 {
 
 // `filled shared words 0 to 7 from FILE`
 fn filled(n: usize, file: &[u8]) {
-    pond_say::text(b"filled ");
-    if n == 0 {
-        pond_say::text(b"no shared words");
-    } else {
-        pond_say::text(b"shared ");
-        told::span(0, n);
-    }
-    pond_say::text(b" from ");
+    told::span(
+        piece(
+            b"filled shared words # to # from |filled no shared words from ",
+            (n == 0) as u8,
+        ),
+        0,
+        n,
+    );
     pond_say::path(file);
     pond_say::end();
 }
 
-fn cannot(file: &[u8], bytes: usize) {
+fn cannot(file: &[u8]) {
     pond_say::text(b"cannot fill: ");
     pond_say::path(file);
-    pond_say::text(b" has ");
-    told::counted(bytes as u64, b" byte");
 }
 
 fn odd(file: &[u8], bytes: usize) {
-    cannot(file, bytes);
-    pond_say::text(b", and a word takes two\n");
+    cannot(file);
+    say(
+        b" has # byte%, and a word takes two\n",
+        bytes as u64,
+        bytes as u64,
+        0,
+    );
 }
 
 fn too_long(s: usize, file: &[u8], bytes: usize) {
-    cannot(file, bytes);
-    if bytes == ROOM {
-        pond_say::text(b" or more");
-    }
-    pond_say::text(b", and ");
-    told::counted(s as u64, b" shared word");
-    pond_say::text(b" have room for ");
-    pond_say::number(room(s));
-    pond_say::end();
+    cannot(file);
+    let phrase = piece(
+        b" has # byte%, and # shared word% have room for #\n| has # byte% or more, and # shared word% have room for #\n",
+        (bytes == ROOM) as u8,
+    );
+    let rest = begun(phrase, bytes as u64, bytes as u64, s as u64);
+    say(rest, s as u64, room(s), 0);
 }
 
 fn room(s: usize) -> u64 {

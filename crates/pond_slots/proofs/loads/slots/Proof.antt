@@ -1,8 +1,8 @@
 -- `loads::slots` is safe and ends. The measure is what is left to go through. Assumes nothing.
 use borrow.Author.Needs.{needs}
 use Prim.Native.Nat.{_-_}
-use Rattle.pond_bench.proofs.loads.slots.Statement.{statement}
-use Rattle.pond_bench.proofs.loads.slots.Tie as tie
+use Rattle.pond_slots.proofs.loads.slots.Statement.{statement}
+use Rattle.pond_slots.proofs.loads.slots.Tie as tie
 
 abbrev Inv-loop : tie.InvT-loop
 Inv-loop b store book i₀ i = Unit {0}
