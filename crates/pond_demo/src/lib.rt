@@ -88,8 +88,8 @@ fn archive(b: Bench, memory: &mut [u16]) {
 
 // The segments of North and South have 74 bytes each, those of the accident 38.
 fn loaded(b: Bench, memory: &[u16], store: &[u8], book: &mut [u8], i: u8) -> Bench {
-    let name = piece(b"north|south|reads|writes", i);
-    let file = piece(b"north.seg|south.seg|reads.seg|writes.seg", i);
+    let name = piece(b"north|south|reads|writes", i as usize);
+    let file = piece(b"north.seg|south.seg|reads.seg|writes.seg", i as usize);
     let next = loads::asked(
         b,
         memory,
@@ -121,7 +121,7 @@ fn len(i: u8) -> usize {
 }
 
 fn opened(b: Bench, memory: &mut [u16], store: &[u8], book: &mut [u8], i: u8) -> Bench {
-    let name = piece(b"north|south|stale|zero", i);
+    let name = piece(b"north|south|stale|zero", i as usize);
     let next = pond_bench::open(b, memory, store, book, i as u64, 32, name);
     next.bench
 }

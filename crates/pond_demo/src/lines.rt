@@ -32,6 +32,6 @@ pub fn say(k: u8) {
           # South's words are as they were.\n\
           > words south 6 3\n|\
           > map\n",
-        k,
+        k as usize,
     ));
 }

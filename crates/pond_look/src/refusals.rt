@@ -38,14 +38,7 @@ fn refused(number: u8, place: u16, i: u64, wrong: &[u8]) -> Outcome {
         return pond_rules::refused(number, place);
     }
     pond_say::text(b"refused 12 at 0: ");
-    pond_phrases::say(pond_phrases::piece(wrong, beyond(i)), i, 0, 0);
+    pond_phrases::say(pond_phrases::piece(wrong, (15 < i) as usize), i, 0, 0);
     pond_say::end();
     Outcome::Refused
-}
-
-fn beyond(i: u64) -> u8 {
-    if 15 < i {
-        return 1;
-    }
-    0
 }

@@ -5,14 +5,14 @@ ghost use Prim.Native.Nat.{_≤_};
 ghost use lib.ListN.{length};
 
 // Piece k of a row, from 0 up, or no bytes where it has no such piece.
-pub fn piece(row: &[u8], k: u8) -> &[u8] {
+pub fn piece(row: &[u8], k: usize) -> &[u8] {
     let a = begin(row, k);
     let rest = &row[a..];
     front(rest, extent(rest))
 }
 
 // The byte after the k-th bar, or after the last byte.
-fn begin(row: &[u8], k: u8) -> usize
+fn begin(row: &[u8], k: usize) -> usize
     ensures { λ r. ⌜ r ≤ length (now (row .entry)) ⌝ }
 {
     let mut i = 0;

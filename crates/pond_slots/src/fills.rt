@@ -67,7 +67,7 @@ fn filled(n: usize, file: &[u8]) {
     told::span(
         piece(
             b"filled shared words # to # from |filled no shared words from ",
-            (n == 0) as u8,
+            (n == 0) as usize,
         ),
         0,
         n,
@@ -95,7 +95,7 @@ fn too_long(s: usize, file: &[u8], bytes: usize) {
     cannot(file);
     let phrase = piece(
         b" has # byte%, and # shared word% have room for #\n| has # byte% or more, and # shared word% have room for #\n",
-        (bytes == ROOM) as u8,
+        (bytes == ROOM) as usize,
     );
     let rest = begun(phrase, bytes as u64, bytes as u64, s as u64);
     say(rest, s as u64, room(s), 0);

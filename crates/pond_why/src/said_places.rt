@@ -1,9 +1,6 @@
 // Sentences of addresses: fault 6.
 // Above it: `said`. Below it: how a sentence is said.
-use crate::said::Told;
-use crate::said::four;
 use crate::said::sentence;
-use crate::said::two;
 use cause::Address;
 use cause::Numbers;
 use cause::Place;
@@ -12,100 +9,77 @@ use cause::less;
 // The first address of a shared word.
 const SHARED: usize = 32768;
 
+// The record at word 1 is the globals'.
 pub fn place(n: Numbers, p: Place) {
-    sentence(
-        b"offset # of the record at word # is word #; the report has words 1 to #|\
-          offset # of the record at word #, the globals, is word #; the report has words 1 to #|\
-          it wants a constant, and the segment has no constant pool|\
-          constant # of the pool at word # is word #, and the segment has words 0 to #",
-        of_place(n, p),
-    );
-}
-
-fn of_place(n: Numbers, p: Place) -> Told {
-    match p {
-        Place::Offset(x, m, at) => four(
-            globals(m),
-            x as usize,
-            m as usize,
-            at,
-            less(n.len as usize, 1),
-        ),
-        Place::NoPool => two(2, 0, 0),
-        Place::Pool(x, at) => four(
+    let last = less(n.len as usize, 1);
+    let told = match p {
+        Place::Offset(x, m, at) => [(m == 1) as usize, x as usize, m as usize, at, last, 0],
+        Place::NoPool => [2, 0, 0, 0, 0, 0],
+        Place::Pool(x, at) => [
             3,
             x as usize,
             n.pool as usize,
             at,
             less(n.code as usize / 2, 1),
-        ),
-    }
-}
-
-// The record at word 1 is the globals'.
-fn globals(m: u16) -> u8 {
-    if m == 1 {
-        return 1;
-    }
-    0
+            0,
+        ],
+    };
+    sentence(
+        b"offset # of the record at word # is word #; the report has words 1 to #|\
+          offset # of the record at word #, the globals, is word #; the report has words 1 to #|\
+          it wants a constant, and the segment has no constant pool|\
+          constant # of the pool at word # is word #, and the segment has words 0 to #",
+        told,
+    );
 }
 
 pub fn address(n: Numbers, a: Address) {
+    let last = less(n.len as usize, 1);
+    let told = match a {
+        Address::Nil(i) => [0, i as usize, 0, 0, 0, 0],
+        Address::Above(base, i) => [1, base as usize, i as usize, sum(base, i), 0, 0],
+        Address::Word(base, i) => [2, base as usize, i as usize, sum(base, i), last, 0],
+        Address::Shared(base, i) => missing(base, i, n.shared as usize),
+        Address::StoreNil => [5, 0, 0, 0, 0, 0],
+        Address::StoreWord(to) => [6, to as usize, to as usize, last, 0, 0],
+        Address::StoreShared(to) => stored(to, n.shared as usize),
+    };
     sentence(
         b"the address is NIL, and NIL + # is no word|\
           address # + # is #, and the last address is 65535|\
           address # + # is word #; the report has words 1 to #|\
-          address # + # is shared word #; there are no shared words|\
           address # + # is shared word #; the report has shared words 0 to #|\
+          address # + # is shared word #; there are no shared words|\
           it stores to NIL, which is no word|\
           it stores to address #, which is word #; the report has words 1 to #|\
-          it stores to address #, which is shared word #; there are no shared words, and a shared word can only be read|\
           it stores to address #, which is shared word #; the report has shared words 0 to #, and a shared word can only be read|\
+          it stores to address #, which is shared word #; there are no shared words, and a shared word can only be read|\
           it stores to address #, which is shared word #, and a shared word can only be read",
-        of_address(n, a),
+        told,
     );
 }
 
-fn of_address(n: Numbers, a: Address) -> Told {
-    let last = less(n.len as usize, 1);
-    match a {
-        Address::Nil(i) => two(0, i as usize, 0),
-        Address::Above(base, i) => indexed(1, base, i, 0),
-        Address::Word(base, i) => indexed(2, base, i, last),
-        Address::Shared(base, i) => shared(base, i, n.shared),
-        Address::StoreNil => two(5, 0, 0),
-        Address::StoreWord(to) => four(6, to as usize, to as usize, last, 0),
-        Address::StoreShared(to) => stored(to, n.shared),
-    }
+fn sum(base: u16, i: u16) -> usize {
+    base as usize + i as usize
 }
 
-// An indexed address, told as a sum.
-fn indexed(k: u8, base: u16, i: u16, last: usize) -> Told {
-    four(
-        k,
-        base as usize,
-        i as usize,
-        base as usize + i as usize,
-        last,
-    )
-}
-
-// The shared words that there are, where the address is none of them.
-fn shared(base: u16, i: u16, shared: u16) -> Told {
-    let at = less(base as usize + i as usize, SHARED);
+// A shared word that is not there, and which ones are.
+fn missing(base: u16, i: u16, shared: usize) -> [usize; 6] {
+    let at = less(sum(base, i), SHARED);
     if shared == 0 {
-        return four(3, base as usize, i as usize, at, 0);
+        return [4, base as usize, i as usize, at, 0, 0];
     }
-    four(4, base as usize, i as usize, at, shared as usize - 1)
+    [3, base as usize, i as usize, at, less(shared, 1), 0]
 }
 
-fn stored(to: u16, shared: u16) -> Told {
+// A store to a shared word, which may be there.
+fn stored(to: u16, shared: usize) -> [usize; 6] {
     let at = less(to as usize, SHARED);
-    if at < shared as usize {
-        return two(9, to as usize, at);
+    if at < shared {
+        return [9, to as usize, at, 0, 0, 0];
     }
     if shared == 0 {
-        return two(7, to as usize, at);
+        return [8, to as usize, at, 0, 0, 0];
     }
-    four(8, to as usize, at, shared as usize - 1, 0)
+    [7, to as usize, at, less(shared, 1), 0, 0]
 }
