@@ -34,7 +34,7 @@ fn line(b: Bench, book: &[u8], at: usize, n: usize) -> usize {
         return owned(b, book, i);
     }
     let next = nearest(sessions, at, n);
-    free(at, next);
+    told::span(b"words # to #: free\n", at, told::less(next, at));
     next
 }
 
@@ -48,25 +48,17 @@ fn owned(b: Bench, book: &[u8], i: usize) -> usize {
     told::past(se.base, se.len)
 }
 
-fn free(at: usize, next: usize) {
-    told::span(b"words # to #: free\n", at, told::less(next, at));
-}
-
 // The session whose region begins at word at, or 16.
 fn begins(sessions: [Session; 16], at: usize) -> usize {
     let mut i: usize = 0;
     while i < 16 {
         let se = sessions[i];
-        if starts(se, at) {
+        if bounds::both(se.used, se.base == at) {
             return i;
         }
         i += 1;
     }
     16
-}
-
-fn starts(se: Session, at: usize) -> bool {
-    bounds::both(se.used, se.base == at)
 }
 
 // The first word from at on where a region begins, or n.

@@ -288,7 +288,7 @@ fn save(b: Bench, memory: &[u16], book: &[u8], tape: &[u8], n: u8) -> Outcome {
     }
     let s = expects::session(book, row(tape, 1));
     if s.ok {
-        return pond_closer::save(b, memory, book, s.value, row(tape, 2));
+        return pond_save::save(b, memory, book, s.value, row(tape, 2));
     }
     Outcome::Typing
 }

@@ -1,10 +1,10 @@
--- `saved::put` is safe and ends: it passes each byte once. Assumes nothing.
+-- `put` is safe and ends: it passes each byte once. Assumes nothing.
 use Prim.Native.Nat.{_-_, _≤_}
 use mathlib.Core.Path.{_≡_}
 use borrow.Author.Needs.{needs}
 use lib.ListN.{length}
-use Rattle.pond_closer.proofs.saved.put.Statement.{statement}
-use Rattle.pond_closer.proofs.saved.put.Tie as tie
+use Rattle.pond_save.proofs.put.Statement.{statement}
+use Rattle.pond_save.proofs.put.Tie as tie
 
 abbrev Inv-loop : tie.InvT-loop
 Inv-loop room₀ at bytes to₀ i₀ room to i = (i ≤ length bytes) × (length room ≡ length room₀)

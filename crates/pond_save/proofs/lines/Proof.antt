@@ -1,10 +1,10 @@
--- `saved::lines` is safe and ends. The measure is what is left to go through. Assumes nothing.
+-- `lines` is safe and ends. The measure is what is left to go through. Assumes nothing.
 use borrow.Author.Needs.{needs}
 use Prim.Native.Nat.{_-_}
 use mathlib.Core.Path.{_≡_}
 use lib.ListN.{length}
-use Rattle.pond_closer.proofs.saved.lines.Statement.{statement}
-use Rattle.pond_closer.proofs.saved.lines.Tie as tie
+use Rattle.pond_save.proofs.lines.Statement.{statement}
+use Rattle.pond_save.proofs.lines.Tie as tie
 
 abbrev Inv-loop : tie.InvT-loop
 Inv-loop region room₀ at₀ i₀ room at i = length room ≡ length room₀
