@@ -3,12 +3,12 @@
 use bench::Answer;
 use plan::Regs;
 use pond_look::Next;
-use pond_look::faults;
 use pond_look::refusals;
 use pond_look::told;
 use pond_phrases::begun;
 use pond_phrases::say;
 use pond_say::Outcome;
+use pond_why::faults;
 use sound::Bench;
 
 pub fn open(

@@ -4,10 +4,10 @@ ghost use Prim.Native.Nat.{_-_, _≤_};
 use bench::Answer;
 use machine::Kind;
 use pond_look::Next;
-use pond_look::faults;
 use pond_look::refusals;
 use pond_look::told;
 use pond_say::Outcome;
+use pond_why::faults;
 use sound::Bench;
 use sound::Session;
 

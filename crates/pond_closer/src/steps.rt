@@ -5,10 +5,10 @@ use bench::Answer;
 use machine::Kind;
 use pond_bench::turns;
 use pond_look::Next;
-use pond_look::faults;
 use pond_look::refusals;
 use pond_look::told;
 use pond_say::Outcome;
+use pond_why::faults;
 use sound::Bench;
 use sound::Session;
 

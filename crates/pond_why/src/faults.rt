@@ -1,8 +1,9 @@
 // What is told of a faulted session: the instruction's line, and the last line with the reason. Of another session nothing is told.
 // Above it: show, turn and run. Below it: the listing and the reasons.
-use crate::told;
+use crate::reasons;
 use machine::Kind;
 use plan::Regs;
+use pond_look::told;
 use pond_say::Outcome;
 use sound::Bench;
 use sound::Session;
@@ -37,6 +38,6 @@ pub fn reason(b: Bench, memory: &[u16], store: &[u8], se: Session) -> Outcome {
 
 fn line(seg: &[u8], region: &[u16], shared: usize, regs: Regs, number: u8, place: usize) {
     pond_phrases::say(b"fault # at byte #: ", number as u64, place as u64, 0);
-    pond_why::reason(seg, region, shared, regs, number, place);
+    reasons::reason(seg, region, shared, regs, number, place);
     pond_say::end();
 }
