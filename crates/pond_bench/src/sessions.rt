@@ -1,12 +1,14 @@
 // `open SLOT WORDS`, `show SESSION`, `close SESSION`.
 // Above it: the console. Below it: the bench, and what is told of a fault.
-use crate::nexts::Next;
 use bench::Answer;
 use plan::Regs;
-use pond_look::faults;
+use pond_look::Next;
 use pond_look::refusals;
 use pond_look::told;
+use pond_phrases::begun;
+use pond_phrases::say;
 use pond_say::Outcome;
+use pond_why::faults;
 use sound::Bench;
 
 pub fn open(
@@ -26,9 +28,7 @@ pub fn open(
             pond_rows::put(book, pond_rows::session_row(i as usize), name);
             state(after, book, i as usize)
         }
-        Answer::Refused(number, place) => {
-            refusals::of_slot(number, place, slot, b" is not loaded\n")
-        }
+        Answer::Refused(number, place) => { refusals::not_loaded(number, place, slot) }
     };
     Next {
         bench: after,
@@ -36,20 +36,14 @@ pub fn open(
     }
 }
 
-// `session 0 north: slot 0 north, words 8 to 107 of memory, ready`
+// `session 0 north: slot 0 north, words 8 to 107 of memory, ready, from north.seg`
 fn state(b: Bench, book: &[u8], i: usize) -> Outcome {
     let se = told::record(b, i);
     told::session(book, i);
     pond_say::text(b": ");
     told::slot_of(book, se.slot);
-    pond_say::text(b", ");
-    told::span(se.base, se.len);
-    pond_say::text(b" of memory, ");
-    let cpu = se.cpu;
-    let kind = cpu.kind;
-    told::kind(kind);
-    told::from(book, se.slot);
-    pond_say::end();
+    told::span(b", words # to # of memory, ", se.base, se.len);
+    told::stands(book, se);
     Outcome::Done
 }
 
@@ -69,16 +63,13 @@ pub fn show(b: Bench, memory: &[u16], store: &[u8], book: &[u8], session: u64) -
 }
 
 fn registers(r: Regs) {
-    register(b"  SP ", r.sp);
-    register(b", M ", r.m);
-    register(b", counter ", r.counter);
-    register(b", routine ", r.routine);
-    pond_say::end();
-}
-
-fn register(label: &[u8], n: usize) {
-    pond_say::text(label);
-    pond_say::number(n as u64);
+    let rest = begun(
+        b"  SP #, M #, counter #, routine #\n",
+        r.sp as u64,
+        r.m as u64,
+        r.counter as u64,
+    );
+    say(rest, r.routine as u64, 0, 0);
 }
 
 pub fn close(b: Bench, memory: &mut [u16], store: &[u8], book: &mut [u8], session: u64) -> Next {
@@ -100,7 +91,5 @@ pub fn close(b: Bench, memory: &mut [u16], store: &[u8], book: &mut [u8], sessio
 
 fn closed(book: &[u8], i: usize, base: usize, len: usize) {
     told::session(book, i);
-    pond_say::text(b": closed, ");
-    told::span(base, len);
-    pond_say::text(b" are free\n");
+    told::span(b": closed, words # to # are free\n", base, len);
 }

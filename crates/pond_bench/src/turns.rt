@@ -1,13 +1,13 @@
 // `turn SESSION STEPS`: as many turns of the bench as the steps take, and how the session stands then.
 // Above it: the console. Below it: the bench, and what is told of a fault.
 ghost use Prim.Native.Nat.{_-_, _≤_};
-use crate::nexts::Next;
 use bench::Answer;
 use machine::Kind;
-use pond_look::faults;
+use pond_look::Next;
 use pond_look::refusals;
 use pond_look::told;
 use pond_say::Outcome;
+use pond_why::faults;
 use sound::Bench;
 use sound::Session;
 
@@ -68,15 +68,13 @@ pub fn stopped(o: Outcome) -> Outcome {
 // `session 0 north: 37 steps, ready`
 pub fn ended(book: &[u8], i: usize, steps: u64, se: Session) {
     told::session(book, i);
-    pond_say::text(b": ");
-    told::counted(steps, b" step");
-    pond_say::text(b", ");
+    pond_phrases::say(b": # step%, ", steps, steps, 0);
     let cpu = se.cpu;
     let kind = cpu.kind;
     if let Kind::Faulted(_, _) = kind {
         pond_say::text(b"then ");
     }
-    told::kind(kind);
+    told::standing(kind);
     pond_say::end();
 }
 
@@ -152,8 +150,6 @@ fn milestone(done: u64, n: u64) {
         return;
     }
     if done % MILESTONE == 0 {
-        pond_say::text(b"  ");
-        pond_say::number(done);
-        pond_say::text(b" steps so far\n");
+        pond_phrases::say(b"  # steps so far\n", done, 0, 0);
     }
 }

@@ -3,6 +3,7 @@
 ghost use Prim.Native.Nat.{_-_, _≤_};
 use machine::Kind;
 use pond_look::told;
+use pond_phrases::say;
 use sound::Bench;
 use sound::Session;
 
@@ -75,10 +76,7 @@ fn fewer(left: u8, more: bool) -> u8
 
 // Tells of a record, and answers the one whose routine called. A mark is MSSTAT, MSDYN, MSIPC, MSENDV and MSPROC, from the record's word on.
 fn call(region: &[u16], r: Record) -> Record {
-    pond_say::text(b"  routine ");
-    pond_say::number(r.routine);
-    pond_say::text(b", record at word ");
-    pond_say::number(r.m as u64);
+    say(b"  routine #, record at word #", r.routine, r.m as u64, 0);
     if r.m < 2 {
         pond_say::text(b": the first\n");
         return last();
@@ -100,11 +98,12 @@ fn last() -> Record {
 }
 
 fn returning(byte: u16, routine: u16, m: u16) -> Record {
-    pond_say::text(b", returns to byte ");
-    pond_say::number(byte as u64);
-    pond_say::text(b" of routine ");
-    pond_say::number(routine as u64);
-    pond_say::end();
+    say(
+        b", returns to byte # of routine #\n",
+        byte as u64,
+        routine as u64,
+        0,
+    );
     Record {
         there: m > 0,
         m: m as usize,

@@ -3,12 +3,12 @@
 ghost use Prim.Native.Nat.{_-_, _≤_};
 use bench::Answer;
 use machine::Kind;
-use pond_bench::Next;
 use pond_bench::turns;
-use pond_look::faults;
+use pond_look::Next;
 use pond_look::refusals;
 use pond_look::told;
 use pond_say::Outcome;
+use pond_why::faults;
 use sound::Bench;
 use sound::Session;
 
@@ -49,7 +49,7 @@ pub fn step(
 fn ended(se: Session) {
     let cpu = se.cpu;
     let kind = cpu.kind;
-    told::kind(kind);
+    told::standing(kind);
     pond_say::end();
 }
 
@@ -129,9 +129,7 @@ fn top(memory: &[u16], se: Session) {
     }
     words(region, regs.sp);
     if 3 < n {
-        pond_say::text(b" and ");
-        pond_say::number((n - 3) as u64);
-        pond_say::text(b" more");
+        pond_phrases::say(b" and # more", (n - 3) as u64, 0, 0);
     }
 }
 

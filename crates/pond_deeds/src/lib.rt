@@ -21,7 +21,7 @@ pub fn follow(
 ) -> Next {
     let d = pond_words::read(form, book, tape, n);
     if let Deed::Bench(n, s) = d {
-        return pond_bench::new_bench(b, memory, book, n, s);
+        return pond_slots::new_bench(b, memory, book, n, s);
     }
     let words = b.n;
     if words <= memory.len() {
@@ -45,10 +45,10 @@ fn lent(
 ) -> Next {
     match d {
         Deed::Load(slot) => {
-            pond_bench::load(b, memory, store, book, slot, row(tape, 8), row(tape, 2))
+            pond_slots::load(b, memory, store, book, slot, row(tape, 8), row(tape, 2))
         }
         Deed::LoadNamed => {
-            pond_bench::load_named(b, memory, store, book, row(tape, 1), row(tape, 2))
+            pond_slots::load_named(b, memory, store, book, row(tape, 1), row(tape, 2))
         }
         Deed::Open(slot, words, name) => {
             pond_bench::open(b, memory, store, book, slot, words, row(tape, name))
@@ -56,7 +56,7 @@ fn lent(
         Deed::Turn(s, steps) => pond_bench::turn(b, memory, store, book, s, steps),
         Deed::Close(s) => pond_bench::close(b, memory, store, book, s),
         Deed::Step(s, steps) => pond_closer::step(b, memory, store, book, s, steps),
-        Deed::Fill => kept(b, pond_bench::fill(b, memory, row(tape, 1))),
+        Deed::Fill => kept(b, pond_slots::fill(b, memory, row(tape, 1))),
         _ => kept(b, seen(d, b, memory, store, book, row(tape, 2))),
     }
 }
@@ -67,13 +67,13 @@ fn seen(d: Deed, b: Bench, memory: &[u16], store: &[u8], book: &[u8], file: &[u8
         Deed::Show(s) => shown(b, memory, store, book, s),
         Deed::Words(s, p) => pond_bench::words(b, memory, book, s, wanted(p)),
         Deed::Shared(p) => pond_bench::shared(b, memory, wanted(p)),
-        Deed::Save(s) => pond_closer::save(b, memory, book, s, file),
+        Deed::Save(s) => pond_save::save(b, memory, book, s, file),
         Deed::Map => {
             pond_bench::map(b, book);
             Outcome::Done
         }
         Deed::Slots => {
-            pond_bench::slots(b, store, book);
+            pond_slots::slots(b, store, book);
             Outcome::Done
         }
         _ => Outcome::Typing,

@@ -4,9 +4,10 @@
 mod bytes;
 mod lines;
 
-use pond_bench::fills;
-use pond_bench::loads;
 use pond_look::Wanted;
+use pond_phrases::piece;
+use pond_slots::fills;
+use pond_slots::loads;
 use sound::Bench;
 
 pub fn demo() {
@@ -29,32 +30,12 @@ fn shown(b: Bench, memory: &mut [u16], book: &mut [u8], store: &[u8]) {
 
 // What line k asks.
 fn done(b: Bench, memory: &mut [u16], book: &mut [u8], store: &[u8], k: u8) -> Bench {
+    let i = whose(k);
     match k {
         0 => made(b, memory, book),
-        2 => loaded(b, memory, store, book, b"north", b"north.seg", 0, 0, 74),
-        3 => loaded(b, memory, store, book, b"south", b"south.seg", 1, 74, 74),
-        4 => opened(b, memory, store, book, 0, b"north"),
-        5 => opened(b, memory, store, book, 1, b"south"),
-        12 => loaded(b, memory, store, book, b"reads", b"reads.seg", 2, 148, 38),
-        13 => opened(b, memory, store, book, 2, b"stale"),
-        15 => loaded(b, memory, store, book, b"writes", b"writes.seg", 3, 186, 38),
-        16 => opened(b, memory, store, book, 3, b"zero"),
-        _ => turned(b, memory, store, book, k),
-    }
-}
-
-fn turned(b: Bench, memory: &mut [u16], store: &[u8], book: &[u8], k: u8) -> Bench {
-    match k {
-        6 => ran(b, memory, store, book, 0, 40),
-        7 => ran(b, memory, store, book, 1, 60),
-        8 => ran(b, memory, store, book, 0, 1000),
-        9 => ran(b, memory, store, book, 1, 1000),
-        14 => ran(b, memory, store, book, 2, 1000),
-        17 => ran(b, memory, store, book, 3, 1000),
-        1 => {
-            archive(b, memory);
-            b
-        }
+        2 | 3 | 12 | 15 => loaded(b, memory, store, book, i),
+        4 | 5 | 13 | 16 => opened(b, memory, store, book, i),
+        6 | 7 | 8 | 9 | 14 | 17 => ran(b, memory, store, book, i, steps(k)),
         _ => {
             seen(b, memory, book, k);
             b
@@ -62,22 +43,41 @@ fn turned(b: Bench, memory: &mut [u16], store: &[u8], book: &[u8], k: u8) -> Ben
     }
 }
 
-fn seen(b: Bench, memory: &[u16], book: &[u8], k: u8) {
+// The slot that line k speaks of, or the session, which has the same number.
+fn whose(k: u8) -> u8 {
     match k {
-        10 => {
-            pond_look::words(b, memory, book, 0, Wanted::Part(6, 3));
+        2 | 4 | 6 | 8 | 10 => 0,
+        12..=14 => 2,
+        15..=17 => 3,
+        _ => 1,
+    }
+}
+
+// The steps of the turn on line k.
+fn steps(k: u8) -> u64 {
+    match k {
+        6 => 40,
+        7 => 60,
+        _ => 1000,
+    }
+}
+
+fn seen(b: Bench, memory: &mut [u16], book: &[u8], k: u8) {
+    match k {
+        1 => {
+            archive(b, memory);
         }
         19 => {
             pond_look::map(b, book);
         }
         _ => {
-            pond_look::words(b, memory, book, 1, Wanted::Part(6, 3));
+            pond_look::words(b, memory, book, whose(k) as u64, Wanted::Part(6, 3));
         }
     }
 }
 
 fn made(b: Bench, memory: &mut [u16], book: &mut [u8]) -> Bench {
-    let next = pond_bench::new_bench(b, memory, book, 200, 8);
+    let next = pond_slots::new_bench(b, memory, book, 200, 8);
     next.bench
 }
 
@@ -86,34 +86,47 @@ fn archive(b: Bench, memory: &mut [u16]) {
     fills::from_bytes(b, memory, b"archive.words", &words);
 }
 
-fn loaded(
-    b: Bench,
-    memory: &[u16],
-    store: &[u8],
-    book: &mut [u8],
-    name: &[u8],
-    file: &[u8],
-    i: usize,
-    start: usize,
-    len: usize,
-) -> Bench {
-    let next = loads::asked(b, memory, store, book, name, file, i, start, len);
+// The segments of North and South have 74 bytes each, those of the accident 38.
+fn loaded(b: Bench, memory: &[u16], store: &[u8], book: &mut [u8], i: u8) -> Bench {
+    let name = piece(b"north|south|reads|writes", i as usize);
+    let file = piece(b"north.seg|south.seg|reads.seg|writes.seg", i as usize);
+    let next = loads::asked(
+        b,
+        memory,
+        store,
+        book,
+        name,
+        file,
+        i as usize,
+        start(i),
+        len(i),
+    );
     next.bench
 }
 
-fn opened(
-    b: Bench,
-    memory: &mut [u16],
-    store: &[u8],
-    book: &mut [u8],
-    slot: u64,
-    name: &[u8],
-) -> Bench {
-    let next = pond_bench::open(b, memory, store, book, slot, 32, name);
+fn start(i: u8) -> usize {
+    match i {
+        0 => 0,
+        1 => 74,
+        2 => 148,
+        _ => 186,
+    }
+}
+
+fn len(i: u8) -> usize {
+    if i < 2 {
+        return 74;
+    }
+    38
+}
+
+fn opened(b: Bench, memory: &mut [u16], store: &[u8], book: &mut [u8], i: u8) -> Bench {
+    let name = piece(b"north|south|stale|zero", i as usize);
+    let next = pond_bench::open(b, memory, store, book, i as u64, 32, name);
     next.bench
 }
 
-fn ran(b: Bench, memory: &mut [u16], store: &[u8], book: &[u8], session: u64, steps: u64) -> Bench {
-    let next = pond_bench::turn(b, memory, store, book, session, steps);
+fn ran(b: Bench, memory: &mut [u16], store: &[u8], book: &[u8], i: u8, steps: u64) -> Bench {
+    let next = pond_bench::turn(b, memory, store, book, i as u64, steps);
     next.bench
 }

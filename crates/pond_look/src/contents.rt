@@ -2,6 +2,8 @@
 // Above it: the console, and run. Below it: the bench's numbers.
 use crate::refusals;
 use crate::told;
+use pond_phrases::piece;
+use pond_phrases::say;
 use pond_say::Outcome;
 use sound::Bench;
 
@@ -32,9 +34,7 @@ pub fn words(b: Bench, memory: &[u16], book: &[u8], session: u64, wanted: Wanted
     }
     cannot(wanted);
     told::session(book, i);
-    pond_say::text(b" has ");
-    told::span(1, told::less(own.len(), 1));
-    pond_say::end();
+    told::span(b" has words # to #\n", 1, told::less(own.len(), 1));
     Outcome::Typing
 }
 
@@ -43,51 +43,33 @@ pub fn shared(b: Bench, memory: &[u16], wanted: Wanted) -> Outcome {
     if shown(all, 0, wanted) {
         return Outcome::Done;
     }
-    let outcome = cannot_share(wanted);
-    shared_are(all.len());
+    let mut outcome = Outcome::Done;
+    // all of no shared words can be shown: there are none
+    if let Wanted::All = wanted {} else {
+        cannot(wanted);
+        outcome = Outcome::Typing;
+    }
+    let phrase = piece(
+        b"words # to # are shared\n|no words are shared\n",
+        (all.len() == 0) as usize,
+    );
+    told::span(phrase, 0, all.len());
     outcome
-}
-
-// All of no shared words can be shown: there are none.
-fn cannot_share(wanted: Wanted) -> Outcome {
-    if let Wanted::All = wanted {
-        return Outcome::Done;
-    }
-    cannot(wanted);
-    Outcome::Typing
-}
-
-fn shared_are(n: usize) {
-    if n == 0 {
-        pond_say::text(b"no words are shared\n");
-        return;
-    }
-    told::span(0, n);
-    pond_say::text(b" are shared\n");
 }
 
 // `cannot show 5 words from word 98 on: `
 fn cannot(wanted: Wanted) {
-    pond_say::text(b"cannot show ");
     match wanted {
         Wanted::All => {
-            pond_say::text(b"words: ");
+            pond_say::text(b"cannot show words: ");
         }
         Wanted::From(from) => {
-            pond_say::text(b"words");
-            cannot_from(from);
+            say(b"cannot show words from word # on: ", from, 0, 0);
         }
         Wanted::Part(from, count) => {
-            told::counted(count, b" word");
-            cannot_from(from);
+            say(b"cannot show # word% from word # on: ", count, count, from);
         }
     }
-}
-
-fn cannot_from(from: u64) {
-    pond_say::text(b" from word ");
-    pond_say::number(from);
-    pond_say::text(b" on: ");
 }
 
 // Shows the words that are wanted, the first of which is word low; answers whether they are there.
@@ -120,18 +102,15 @@ fn range(low: usize, len: usize, wanted: Wanted) -> Stretch {
 // The count words from one on, if there are any and all are among the words from low up to len.
 fn within(low: usize, len: usize, from: usize, count: usize) -> Stretch {
     let end = told::past(from, count);
+    let inside = bounds::both(
+        bounds::at_most(low, from),
+        bounds::ends_by(from, count, len),
+    );
     Stretch {
-        there: bounds::both(bounds::at_most(1, count), inside(low, len, from, count)),
+        there: bounds::both(bounds::at_most(1, count), inside),
         from,
         end,
     }
-}
-
-fn inside(low: usize, len: usize, from: usize, count: usize) -> bool {
-    bounds::both(
-        bounds::at_most(low, from),
-        bounds::ends_by(from, count, len),
-    )
 }
 
 // A line for each word of a part, or for a run of zeros; the part's first word is word first.

@@ -1,8 +1,8 @@
-// What can be seen of a bench, and changes nothing: words, the map, what is told of a fault and of a refusal, and the phrases for them.
-// Above it: the commands that change a bench. Below it: the bench's numbers, the listing and the reasons, and how the console speaks.
+// What can be seen of a bench, and changes nothing: words, the map, what is told of a refusal, and the phrases for them.
+// Above it: what is told of a fault, and the commands that change a bench. Below it: the bench's numbers, and how the console speaks.
 mod contents;
-pub mod faults;
 mod maps;
+mod nexts;
 pub mod refusals;
 pub mod told;
 
@@ -10,3 +10,4 @@ pub use contents::Wanted;
 pub use contents::shared;
 pub use contents::words;
 pub use maps::map;
+pub use nexts::Next;

@@ -10,8 +10,7 @@ pub fn map(b: Bench, book: &[u8]) {
         return;
     }
     if b.s > 0 {
-        told::span(0, b.s);
-        pond_say::text(b": shared\n");
+        told::span(b"words # to #: shared\n", 0, b.s);
     }
     lines(b, book, b.s, b.n);
 }
@@ -35,28 +34,18 @@ fn line(b: Bench, book: &[u8], at: usize, n: usize) -> usize {
         return owned(b, book, i);
     }
     let next = nearest(sessions, at, n);
-    free(at, next);
+    told::span(b"words # to #: free\n", at, told::less(next, at));
     next
 }
 
 // `words 8 to 39: session 0 north, finished, from north.seg`
 fn owned(b: Bench, book: &[u8], i: usize) -> usize {
     let se = told::record(b, i);
-    told::span(se.base, se.len);
-    pond_say::text(b": ");
+    told::span(b"words # to #: ", se.base, se.len);
     told::session(book, i);
     pond_say::text(b", ");
-    let cpu = se.cpu;
-    let kind = cpu.kind;
-    told::kind(kind);
-    told::from(book, se.slot);
-    pond_say::end();
+    told::stands(book, se);
     told::past(se.base, se.len)
-}
-
-fn free(at: usize, next: usize) {
-    told::span(at, told::less(next, at));
-    pond_say::text(b": free\n");
 }
 
 // The session whose region begins at word at, or 16.
@@ -64,16 +53,12 @@ fn begins(sessions: [Session; 16], at: usize) -> usize {
     let mut i: usize = 0;
     while i < 16 {
         let se = sessions[i];
-        if starts(se, at) {
+        if bounds::both(se.used, se.base == at) {
             return i;
         }
         i += 1;
     }
     16
-}
-
-fn starts(se: Session, at: usize) -> bool {
-    bounds::both(se.used, se.base == at)
 }
 
 // The first word from at on where a region begins, or n.

@@ -2,40 +2,43 @@
 // Above it: the commands on a bench. Below it: the rules, and how the console speaks.
 use pond_say::Outcome;
 
-// A refused command on session i.
+// A refused command on session i, which has to be open.
 pub fn of_session(number: u8, place: u16, i: u64) -> Outcome {
+    refused(
+        number,
+        place,
+        i,
+        b"session # is not open|session # is not there: they have numbers 0 to 15",
+    )
+}
+
+// A refused command on slot i, which has to be loaded.
+pub fn not_loaded(number: u8, place: u16, i: u64) -> Outcome {
+    refused(
+        number,
+        place,
+        i,
+        b"slot # is not loaded|slot # is not there: they have numbers 0 to 15",
+    )
+}
+
+// A refused command on slot i, which may not be loaded.
+pub fn is_loaded(number: u8, place: u16, i: u64) -> Outcome {
+    refused(
+        number,
+        place,
+        i,
+        b"slot # is loaded already|slot # is not there: they have numbers 0 to 15",
+    )
+}
+
+// What is wrong with number i where it is there, and where it is not.
+fn refused(number: u8, place: u16, i: u64, wrong: &[u8]) -> Outcome {
     if number != 12 {
         return pond_rules::refused(number, place);
     }
-    begun(i, b"session ");
-    if 15 < i {
-        beyond();
-    } else {
-        pond_say::text(b" is not open\n");
-    }
-    Outcome::Refused
-}
-
-// A refused command on slot i; what is wrong with a slot that is there.
-pub fn of_slot(number: u8, place: u16, i: u64, wrong: &[u8]) -> Outcome {
-    if number != 12 {
-        return pond_rules::refused(number, place);
-    }
-    begun(i, b"slot ");
-    if 15 < i {
-        beyond();
-    } else {
-        pond_say::text(wrong);
-    }
-    Outcome::Refused
-}
-
-fn begun(i: u64, what: &[u8]) {
     pond_say::text(b"refused 12 at 0: ");
-    pond_say::text(what);
-    pond_say::number(i);
-}
-
-fn beyond() {
-    pond_say::text(b" is not there: they have numbers 0 to 15\n");
+    pond_phrases::say(pond_phrases::piece(wrong, (15 < i) as usize), i, 0, 0);
+    pond_say::end();
+    Outcome::Refused
 }

@@ -1,6 +1,7 @@
 // Phrases that several commands say, and the parts of a bench that they speak of.
 // Above it: every command on a bench. Below it: how the console speaks.
 use machine::Kind;
+use pond_phrases::say;
 use sound::Bench;
 use sound::Session;
 use sound::Slot;
@@ -8,33 +9,26 @@ use sound::Slot;
 // No memory has more words; so no sum of a base and a length below it wraps.
 const MOST: usize = 1048576;
 
-// `37 steps`, and `1 step`.
-pub fn counted(n: u64, what: &[u8]) {
-    pond_say::number(n);
-    pond_say::text(what);
-    if n != 1 {
-        pond_say::text(b"s");
-    }
-}
-
 // `session 0`, or `session 0 north` where it has a name.
 pub fn session(book: &[u8], i: usize) {
-    pond_say::text(b"session ");
-    pond_say::number(i as u64);
+    say(b"session #", i as u64, 0, 0);
     named(pond_rows::session_name(book, i));
 }
 
 // `slot 0`, or `slot 0 north` where it has a name.
 pub fn slot_of(book: &[u8], i: usize) {
-    pond_say::text(b"slot ");
-    pond_say::number(i as u64);
+    say(b"slot #", i as u64, 0, 0);
     named(pond_rows::slot_name(book, i));
 }
 
-// `, from north.seg`: the file of a slot.
-pub fn from(book: &[u8], slot: usize) {
+// `ready, from north.seg`, the end of its line too: a session's kind, and the file of its slot.
+pub fn stands(book: &[u8], se: Session) {
+    let cpu = se.cpu;
+    let kind = cpu.kind;
+    standing(kind);
     pond_say::text(b", from ");
-    pond_say::path(pond_rows::file_of(book, slot));
+    pond_say::path(pond_rows::file_of(book, se.slot));
+    pond_say::end();
 }
 
 fn named(name: &[u8]) {
@@ -44,17 +38,9 @@ fn named(name: &[u8]) {
     }
 }
 
-// `words 8 to 107`
-pub fn span(base: usize, len: usize) {
-    pond_say::text(b"words ");
-    pond_say::number(base as u64);
-    to(last(base, len));
-}
-
-// ` to 107`
-pub fn to(last: usize) {
-    pond_say::text(b" to ");
-    pond_say::number(last as u64);
+// A phrase with two marks, for the first and the last of len words from base on.
+pub fn span(phrase: &[u8], base: usize, len: usize) {
+    say(phrase, base as u64, last(base, len) as u64, 0);
 }
 
 // The last of len words from base on, or base where there is none.
@@ -85,7 +71,7 @@ pub fn less(a: usize, b: usize) -> usize {
 }
 
 // A session's kind in words.
-pub fn kind(k: Kind) {
+pub fn standing(k: Kind) {
     match k {
         Kind::Ready => {
             pond_say::text(b"ready");
@@ -94,8 +80,7 @@ pub fn kind(k: Kind) {
             pond_say::text(b"finished");
         }
         Kind::Faulted(number, _) => {
-            pond_say::text(b"fault ");
-            pond_say::number(number as u64);
+            say(b"fault #", number as u64, 0, 0);
         }
     }
 }

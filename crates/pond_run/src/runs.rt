@@ -1,12 +1,12 @@
 // `run FILE [WORDS [STEPS]] [with ARCHIVE]`: a segment on a bench of its own, to its end; how it ended, and its words.
 // Above it: the console. Below it: the other commands, as they are.
-use pond_bench::fills;
-use pond_bench::loads;
 use pond_bench::turns;
 use pond_look::Wanted;
-use pond_look::faults;
 use pond_look::told;
 use pond_say::Outcome;
+use pond_slots::fills;
+use pond_slots::loads;
+use pond_why::faults;
 use sound::Bench;
 use sound::Session;
 use text::front;

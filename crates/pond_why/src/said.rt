@@ -1,5 +1,5 @@
-// The sentence of a check that failed: which module says it, and the phrases that several share.
-// Above it: the entry. Below it: how the console speaks. Nothing here decides.
+// The sentence of a check that failed: which row it stands in, and how it is said.
+// Above it: the entry. Below it: the rows of sentences. Nothing here decides.
 use crate::said_flow;
 use crate::said_places;
 use crate::said_stack;
@@ -29,49 +29,35 @@ pub fn why(n: Numbers, w: Why) {
     }
 }
 
-fn code(n: Numbers, c: Code) {
-    match c {
-        Code::Begins => {
-            told(b"the instruction would begin at byte ", n.counter as usize);
-            code_is(n);
-        }
-        Code::Ends(missing) => {
-            told(b"the instruction needs byte ", missing);
-            told(b", and the segment ends at byte ", less(n.code as usize, 1));
-        }
-        Code::Uncarried(first) => {
-            pond_say::text(b"its first byte, ");
-            pond_say::hex(first as u64, 2);
-            pond_say::text(
-                b" hex, is no instruction that the runner carries; it has no reals, sets, strings, packed fields, long integers or calls to other segments",
-            );
-        }
-        Code::Level(x) => {
-            told(b"its DB operand is ", x as usize);
-            pond_say::text(b", and at most 127 is lawful");
-        }
+// A sentence of a row: its place there, and then the numbers at its marks.
+pub fn sentence(row: &[u8], told: [usize; 6]) {
+    let all = pond_phrases::piece(row, told[0]);
+    let rest = pond_phrases::begun(all, told[1] as u64, told[2] as u64, told[3] as u64);
+    pond_phrases::say(rest, told[4] as u64, told[5] as u64, 0);
+}
+
+// The end of a range, or 0 where it is its beginning.
+pub fn end(low: usize, high: usize) -> usize {
+    if low == high {
+        return 0;
     }
+    high
 }
 
-// A phrase and its number.
-pub fn told(phrase: &[u8], number: usize) {
-    pond_say::text(phrase);
-    pond_say::number(number as u64);
-}
-
-// From one number to another.
-pub fn to(low: usize, high: usize) {
-    pond_say::number(low as u64);
-    told(b" to ", high);
-}
-
-pub fn code_is(n: Numbers) {
-    pond_say::text(b", and the code is bytes ");
-    to(22, less(n.code as usize, 1));
-}
-
-// The words of the region that have an address.
-pub fn words_are(n: Numbers) {
-    pond_say::text(b"; the report has words ");
-    to(1, less(n.len as usize, 1));
+fn code(n: Numbers, c: Code) {
+    let last = less(n.code as usize, 1);
+    let told = match c {
+        Code::Begins => [0, n.counter as usize, last, 0, 0, 0],
+        Code::Ends(missing) => [1, missing, last, 0, 0, 0],
+        Code::Uncarried(first) => [2, first as usize, 0, 0, 0, 0],
+        Code::Level(x) => [3, x as usize, 0, 0, 0, 0],
+    };
+    sentence(
+        b"the instruction would begin at byte #, and the code is bytes 22 to #|\
+          the instruction needs byte #, and the segment ends at byte #|\
+          its first byte, ^ hex, is no instruction that the runner carries; it has no reals, sets, strings, packed fields, long integers or calls \
+          to other segments|\
+          its DB operand is #, and at most 127 is lawful",
+        told,
+    );
 }

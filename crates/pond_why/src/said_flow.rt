@@ -1,91 +1,58 @@
 // Sentences of jumps, calls, links and returns: faults 7, 8 and 9.
-// Above it: `said`. Below it: how the console speaks.
-use crate::said::code_is;
-use crate::said::to;
-use crate::said::told;
+// Above it: `said`. Below it: how a sentence is said.
+use crate::said::end;
+use crate::said::sentence;
 use cause::Flow;
 use cause::Numbers;
 use cause::less;
 
 pub fn flow(n: Numbers, f: Flow) {
-    match f {
-        Flow::Target(t) => {
-            told(b"the jump leads to byte ", t);
-            code_is(n);
-        }
-        Flow::Before(k) => {
-            told(b"the jump leads to byte -", k);
-            code_is(n);
-        }
-        Flow::Routine(k) => {
-            told(b"it calls routine ", k as usize);
-            pond_say::text(b", and the segment has routines ");
-            to(1, n.count as usize);
-        }
-        Flow::Link(of, left, at, value) => {
-            link(n, of, left, at, value);
-        }
-        Flow::Dynamic(value) => {
-            mark(n, b"MSDYN", 1, value, 1, less(n.len as usize, 5));
-        }
-        Flow::Caller(value) => {
-            mark(n, b"MSPROC", 4, value, 1, n.count as usize);
-        }
-        Flow::Segment(value) => {
-            mark(n, b"MSENDV", 3, value, 1, 1);
-        }
-        Flow::Resume(value) => {
-            mark(n, b"MSIPC", 2, value, 22, n.code as usize);
-        }
-        Flow::Back(sp, b) => {
-            back(n, sp, b);
-        }
-    }
-}
-
-fn link(n: Numbers, of: u16, left: u16, at: u16, value: u16) {
-    told(b"static link ", less(of as usize + 1, left as usize));
-    told(b" of ", of as usize);
-    holds(at as usize, value);
-    must(1, less(n.len as usize, 5));
-    // the record at word 1 is the outermost, and its link is 0 from the start
-    if at as usize + value as usize == 1 {
-        pond_say::text(b"; the globals' record has no link to follow");
-    } else {
-        pond_say::text(b"; the report has probably overwritten its own link");
-    }
-}
-
-// One word of the mark of the current record, k words on from its start, which must lie in low to high.
-fn mark(n: Numbers, name: &[u8], k: u8, value: u16, low: usize, high: usize) {
-    told(b"in the mark at word ", n.m as usize);
-    pond_say::text(b" ");
-    pond_say::text(name);
-    holds(n.m as usize + k as usize, value);
-    must(low, high);
-    pond_say::text(b"; the report has probably overwritten its own mark");
-}
-
-fn holds(at: usize, value: u16) {
-    told(b", at word ", at);
-    told(b", holds ", value as usize);
-}
-
-fn must(low: usize, high: usize) {
-    pond_say::text(b", and must be ");
-    if low == high {
-        pond_say::number(low as u64);
-    } else {
-        to(low, high);
-    }
-}
-
-fn back(n: Numbers, sp: usize, b: u16) {
-    told(b"the return drops the mark at word ", n.m as usize);
-    told(b" and ", b as usize);
-    told(b" words more, so SP would be word ", sp);
-    must(n.floor as usize, n.len as usize);
-    pond_say::text(
-        b"; an earlier mark was overwritten, or the code drops the wrong number of words",
+    sentence(
+        b"the jump leads to byte #, and the code is bytes 22 to #|\
+          the jump leads to byte -#, and the code is bytes 22 to #|\
+          it calls routine #, and the segment has routines 1 to #|\
+          static link # of #, at word #, holds #, and must be 1_; the report has probably overwritten its own link|\
+          static link # of #, at word #, holds #, and must be 1_; the globals' record has no link to follow|\
+          in the mark at word # MSDYN, at word #, holds #, and must be 1_; the report has probably overwritten its own mark|\
+          in the mark at word # MSPROC, at word #, holds #, and must be 1_; the report has probably overwritten its own mark|\
+          in the mark at word # MSENDV, at word #, holds #, and must be 1; the report has probably overwritten its own mark|\
+          in the mark at word # MSIPC, at word #, holds #, and must be 22_; the report has probably overwritten its own mark|\
+          the return drops the mark at word # and # words more, so SP would be word #, and must be #_; \
+          an earlier mark was overwritten, or the code drops the wrong number of words",
+        told(n, f),
     );
+}
+
+// Which sentence, and its numbers. Of a range the end is told where it has more than one number.
+fn told(n: Numbers, f: Flow) -> [usize; 6] {
+    let code = less(n.code as usize, 1);
+    let m = n.m as usize;
+    // where the last record can begin
+    let last = end(1, less(n.len as usize, 5));
+    match f {
+        Flow::Target(t) => [0, t, code, 0, 0, 0],
+        Flow::Before(k) => [1, k, code, 0, 0, 0],
+        Flow::Routine(k) => [2, k as usize, n.count as usize, 0, 0, 0],
+        Flow::Link(of, left, at, value) => {
+            let k = link(at, value);
+            let nth = less(of as usize + 1, left as usize);
+            [k, nth, of as usize, at as usize, value as usize, last]
+        }
+        Flow::Dynamic(value) => [5, m, m + 1, value as usize, last, 0],
+        Flow::Caller(value) => [6, m, m + 4, value as usize, end(1, n.count as usize), 0],
+        Flow::Segment(value) => [7, m, m + 3, value as usize, 0, 0],
+        Flow::Resume(value) => [8, m, m + 2, value as usize, n.code as usize, 0],
+        Flow::Back(sp, b) => {
+            let floor = n.floor as usize;
+            [9, m, b as usize, sp, floor, end(floor, n.len as usize)]
+        }
+    }
+}
+
+// The record at word 1 is the outermost, and its link is 0 from the start.
+fn link(at: u16, value: u16) -> usize {
+    if at as usize + value as usize == 1 {
+        return 4;
+    }
+    3
 }

@@ -19,8 +19,8 @@ mul-se c = search needs
 array-copy-out-se : tie.Need-array-copy-out-se Inv-loop μ-loop
 array-copy-out-se c = search needs
 
-starts-requires : tie.Need-starts-requires Inv-loop μ-loop
-starts-requires c κs = search needs
+both-requires : tie.Need-both-requires Inv-loop μ-loop
+both-requires c κs = search needs
 
 returns : tie.Need-returns Inv-loop μ-loop
 returns c = search needs
@@ -46,7 +46,7 @@ begins-spec =
     loop-holds
     mul-se
     array-copy-out-se
-    starts-requires
+    both-requires
     returns
     add-i
     loop-less

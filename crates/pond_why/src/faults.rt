@@ -1,0 +1,43 @@
+// What is told of a faulted session: the instruction's line, and the last line with the reason. Of another session nothing is told.
+// Above it: show, turn and run. Below it: the listing and the reasons.
+use crate::reasons;
+use machine::Kind;
+use plan::Regs;
+use pond_look::told;
+use pond_say::Outcome;
+use sound::Bench;
+use sound::Session;
+
+// The bytes of a slot.
+fn code(b: Bench, store: &[u8], slot: usize) -> &[u8] {
+    let sl = told::slot(b, slot);
+    bounds::code_of(store, sl.start, sl.len)
+}
+
+// The line of the instruction that faulted.
+pub fn instruction(b: Bench, store: &[u8], se: Session) {
+    let cpu = se.cpu;
+    let kind = cpu.kind;
+    if let Kind::Faulted(_, place) = kind {
+        listing::line(code(b, store, se.slot), place);
+    }
+}
+
+// The last line: `fault 6 at byte 58: ` and why.
+pub fn reason(b: Bench, memory: &[u16], store: &[u8], se: Session) -> Outcome {
+    let cpu = se.cpu;
+    let kind = cpu.kind;
+    if let Kind::Faulted(number, place) = kind {
+        let seg = code(b, store, se.slot);
+        let region = told::region(memory, se.base, se.len);
+        line(seg, region, b.s, cpu.regs, number, place);
+        return Outcome::Fault;
+    }
+    Outcome::Done
+}
+
+fn line(seg: &[u8], region: &[u16], shared: usize, regs: Regs, number: u8, place: usize) {
+    pond_phrases::say(b"fault # at byte #: ", number as u64, place as u64, 0);
+    reasons::reason(seg, region, shared, regs, number, place);
+    pond_say::end();
+}
