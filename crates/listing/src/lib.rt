@@ -5,7 +5,6 @@ mod ends;
 mod lines;
 mod operands;
 mod phrases;
-mod pieces;
 mod places;
 mod routines;
 mod rows;

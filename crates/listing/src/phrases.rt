@@ -2,7 +2,7 @@
 // Above it: the table. Below it: rows cut into entries, words of an entry, and the operands.
 use crate::operands;
 use crate::operands::Operands;
-use crate::pieces::piece;
+use text::piece;
 use text::word;
 
 // No entry has more words.

@@ -6,6 +6,7 @@ mod shown;
 mod slices;
 mod words;
 
+pub use pieces::cut;
 pub use pieces::line;
 pub use pieces::piece;
 pub use shown::visible;

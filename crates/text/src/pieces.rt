@@ -6,27 +6,28 @@ ghost use lib.ListN.{length};
 
 // Piece k of a row, from 0 up, or no bytes where it has no such piece.
 pub fn piece(row: &[u8], k: u8) -> &[u8] {
-    cut(row, b';', k)
+    cut(row, b';', k as usize)
 }
 
 // Line k of a page, from 0 up, or no bytes where it has no such line: for sentences, which may hold a semicolon.
 pub fn line(page: &[u8], k: u8) -> &[u8] {
-    cut(page, b'\n', k)
+    cut(page, b'\n', k as usize)
 }
 
-fn cut(all: &[u8], mark: u8, k: u8) -> &[u8] {
+// Part k of a text that a mark of the caller's choice cuts, from 0 up, or no bytes where it has no such part.
+pub fn cut(all: &[u8], mark: u8, k: usize) -> &[u8] {
     let rest = from(all, mark, k);
     let n = extent(rest, mark);
     front(rest, n)
 }
 
-fn from(all: &[u8], mark: u8, k: u8) -> &[u8] {
+fn from(all: &[u8], mark: u8, k: usize) -> &[u8] {
     let a = begun(all, mark, k);
     &all[a..]
 }
 
 // The byte after the k-th mark, or after the last byte.
-fn begun(all: &[u8], mark: u8, k: u8) -> usize
+fn begun(all: &[u8], mark: u8, k: usize) -> usize
     ensures { λ r. ⌜ r ≤ length (now (all .entry)) ⌝ }
 {
     let mut i = 0;
