@@ -1,6 +1,7 @@
 // One line of a listing: the instruction at a byte.
 // Above it: whole listings, and what is told of a fault. Below it: `instruction` and the columns.
 use crate::columns;
+use crate::operands;
 use crate::places;
 use crate::places::NAT;
 use crate::places::NAT_INFO;
@@ -69,8 +70,9 @@ fn other(name: usize, i: Instruction) {
     } else if !i.whole {
         pond_say::text(b", and cut off by the end of the segment");
     } else if i.first == NAT_INFO {
-        pond_say::text(b": passed over with what stands behind it, bytes: ");
-        pond_say::number(i.x as u64);
+        pond_say::text(b": ");
+        operands::bytes(i.x);
+        pond_say::text(b" of native code information behind it, passed over");
     }
 }
 

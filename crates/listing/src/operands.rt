@@ -20,7 +20,7 @@ pub fn signed(w: u16) {
     }
 }
 
-// A number of links or words; one of them loses its s.
+// A number of links, words or bytes; one of them loses its s.
 fn counted(n: u16, things: &[u8]) {
     pond_say::number(n as u64);
     if n == 1 {
@@ -37,6 +37,10 @@ pub fn links(n: u16) {
 
 pub fn words(n: u16) {
     counted(n, b" words");
+}
+
+pub fn bytes(n: u16) {
+    counted(n, b" bytes");
 }
 
 // Where a jump leads, and whether that is out of the code. No segment reaches past byte 65534, so it is always told.

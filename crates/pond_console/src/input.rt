@@ -2,10 +2,10 @@
 // Above it: the program. Below it: a line heard, and the commands.
 ghost use Prim.Native.Nat.{_-_, _≤_};
 use libc::STDIN_FILENO;
-use pond_bench::Next;
 use pond_lines::heard;
 use pond_lines::heard::Heard;
 use pond_lines::stops;
+use pond_look::Next;
 use pond_say::Outcome;
 use pond_words::forms;
 use sound::Bench;
