@@ -1,4 +1,4 @@
-// The commands on the console's bench done: each is one function of `pond_bench` or `pond_closer`, which asks the bench.
+// The commands on the console's bench done: each is one function of `pond_slots`, `pond_bench`, `pond_closer` or `pond_save`, which asks the bench.
 // Above it: the console. Below it: the words of the commands, which say what is to be done.
 use pond_bench::Next;
 use pond_bench::Wanted;
