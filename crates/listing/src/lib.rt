@@ -1,11 +1,9 @@
 // A segment's instructions as lines for people: byte place, bytes, mnemonic, and in plain words what is done to what.
 // Above it: the console's listings. Below it: `instruction`, which alone decides what stands at a byte, and how the console speaks.
 mod columns;
-mod ends;
 mod lines;
 mod operands;
 mod phrases;
-mod places;
 mod routines;
 mod rows;
 mod table;

@@ -2,11 +2,10 @@
 // Above it: whole listings, and what is told of a fault. Below it: `instruction` and the columns.
 use crate::columns;
 use crate::operands;
-use crate::places;
-use crate::places::NAT;
-use crate::places::NAT_INFO;
 use crate::table;
 use instruction::Instruction;
+use spans::NAT;
+use spans::NAT_INFO;
 ghost use Prim.Native.Nat.{_<_};
 ghost use lib.ListN.{length};
 
@@ -19,7 +18,7 @@ pub fn line(seg: &[u8], at: usize) -> usize
 {
     let next = row(seg, at);
     pond_say::end();
-    places::forward(seg.len(), at, next)
+    spans::forward(seg.len(), at, next)
 }
 
 // The line without its end, and the byte where the next line begins.
@@ -32,7 +31,7 @@ pub fn row(seg: &[u8], at: usize) -> usize {
     let i = instruction::read(seg, at);
     columns::bytes(seg, at, i.next);
     named(seg, i);
-    places::line_after(seg.len(), i.first, i.x, i.next)
+    spans::line_after(seg.len(), i.first, i.x, i.next)
 }
 
 // The byte where the line after that of a byte begins, and nothing is printed.
@@ -41,7 +40,7 @@ pub fn after(seg: &[u8], at: usize) -> usize {
         return at;
     }
     let i = instruction::read(seg, at);
-    places::line_after(seg.len(), i.first, i.x, i.next)
+    spans::line_after(seg.len(), i.first, i.x, i.next)
 }
 
 fn named(seg: &[u8], i: Instruction) {

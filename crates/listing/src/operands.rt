@@ -1,6 +1,5 @@
 // The operands in a phrase, each as a person reads it.
 // Above it: what an instruction does. Below it: the header numbers of `segment`, and how the console speaks.
-use crate::places;
 use instruction::Target;
 
 // What is asked of an entry of the table: its mnemonic or its phrase; the operands in order, and the byte after the instruction.
@@ -64,7 +63,7 @@ fn lands(len: usize, t: usize) {
     if t == 0 {
         pond_say::text(b" or below");
     }
-    if !places::in_code(len, t) {
+    if !spans::in_code(len, t) {
         pond_say::text(b" (outside the code)");
     }
 }
@@ -73,7 +72,7 @@ fn lands(len: usize, t: usize) {
 pub fn routine(seg: &[u8], k: u16) {
     pond_say::number(k as u64);
     let h = segment::head(seg);
-    if !places::one_to(h.count, k) {
+    if !spans::one_to(h.count, k) {
         pond_say::text(b" (not there)");
     }
 }

@@ -1,8 +1,6 @@
 // The listing of a segment: each routine's heading and the instructions from its first byte on.
 // Above it: the console's listings. Below it: the lines, and where a routine's code ends.
-use crate::ends;
 use crate::lines;
-use crate::places;
 use segment::Routine;
 ghost use Prim.Native.Nat.{_<_};
 
@@ -24,7 +22,7 @@ fn routine(seg: &[u8], k: u16) {
     let r = segment::routine_of(seg, k);
     heading(k, r);
     let start = r.start as usize;
-    let end = ends::code_end(seg, start);
+    let end = spans::code_end(seg, start);
     code(seg, start, end, r.exitic as usize);
 }
 
@@ -72,5 +70,5 @@ fn marked(seg: &[u8], at: usize, end: usize, exitic: usize) -> usize
         pond_say::text(b"  <- EXITIC");
     }
     pond_say::end();
-    places::forward(end, at, next)
+    spans::forward(end, at, next)
 }

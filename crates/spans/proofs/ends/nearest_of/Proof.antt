@@ -1,8 +1,8 @@
 -- `ends::nearest_of` is its definition. Assumes nothing.
 use borrow.Author.Needs.{needs}
-use Rattle.listing.specs.Ends.{nearerOf}
-use Rattle.listing.proofs.ends.nearest_of.Statement.{statement}
-use Rattle.listing.proofs.ends.nearest_of.Tie as tie
+use Rattle.spans.specs.Ends.{nearerOf}
+use Rattle.spans.proofs.ends.nearest_of.Statement.{statement}
+use Rattle.spans.proofs.ends.nearest_of.Tie as tie
 
 returns : tie.Need-returns
 unfolding nearerOf

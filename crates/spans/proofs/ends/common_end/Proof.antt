@@ -1,8 +1,8 @@
 -- `ends::common_end` is its definition: no routine's words are passed yet. Assumes nothing.
 use borrow.Author.Needs.{needs}
-use Rattle.listing.specs.Ends.{endBy}
-use Rattle.listing.proofs.ends.common_end.Statement.{statement}
-use Rattle.listing.proofs.ends.common_end.Tie as tie
+use Rattle.spans.specs.Ends.{endBy}
+use Rattle.spans.proofs.ends.common_end.Statement.{statement}
+use Rattle.spans.proofs.ends.common_end.Tie as tie
 
 returns : tie.Need-returns
 unfolding endBy

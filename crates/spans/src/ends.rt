@@ -2,7 +2,7 @@
 // Above it: the listing of a routine. Below it: the header numbers and routines of `segment`.
 ghost use mathlib.Core.Path.{_≡_};
 ghost use Prim.Native.Nat.{_-_};
-ghost use Rattle.listing.specs.Ends.{nearer, nearerOf, endBy, codeEnd};
+ghost use Rattle.spans.specs.Ends.{nearer, nearerOf, endBy, codeEnd};
 
 // The first byte of a word, where that lies from start up and below end; else end.
 fn nearest(start: usize, end: usize, word: u32) -> usize

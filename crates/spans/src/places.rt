@@ -3,7 +3,7 @@
 ghost use mathlib.Core.Path.{_≡_};
 ghost use Prim.Native.Nat.{_+_, _<_};
 ghost use Rattle.basis.specs.Bools.{inside};
-ghost use Rattle.listing.specs.Native.{onward, lineAfter};
+ghost use Rattle.spans.specs.Native.{onward, lineAfter};
 
 // The numbers of native code, and of what is told about it.
 pub const NAT: u8 = 168;

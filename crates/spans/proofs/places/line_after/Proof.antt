@@ -1,9 +1,9 @@
 -- `places::line_after` is where the next line begins: after the instruction, but for native code. Assumes nothing.
 use borrow.Author.Needs.{needs}
 use borrow.Author.Tests.{eq-eqb, ne-eqb}
-use Rattle.listing.specs.Native.{lineAfter}
-use Rattle.listing.proofs.places.line_after.Statement.{statement}
-use Rattle.listing.proofs.places.line_after.Tie as tie
+use Rattle.spans.specs.Native.{lineAfter}
+use Rattle.spans.proofs.places.line_after.Statement.{statement}
+use Rattle.spans.proofs.places.line_after.Tie as tie
 
 pub line-after-spec : {M : Type 1} → statement M
 line-after-spec =

@@ -7,9 +7,9 @@ use mathlib.Core.List.{List}
 use borrow.Author.Needs.{needs}
 use denote.Ref.{now}
 use Rattle.segment.specs.declared.Segment.{Segment}
-use Rattle.listing.specs.Ends.{nearerOf, endBy}
-use Rattle.listing.proofs.ends.code_end.Statement.{statement}
-use Rattle.listing.proofs.ends.code_end.Tie as tie
+use Rattle.spans.specs.Ends.{nearerOf, endBy}
+use Rattle.spans.proofs.ends.code_end.Statement.{statement}
+use Rattle.spans.proofs.ends.code_end.Tie as tie
 
 more : (s : List ℕ) (start k r end : ℕ) → r ≡ nearerOf s start end (k + 1) → end ≡ endBy s start k → r ≡ endBy s start (k + 1)
 unfolding endBy

@@ -1,9 +1,9 @@
 -- `ends::nearest` is its definition. Assumes nothing.
 use borrow.Author.Needs.{needs}
 use borrow.Author.Tests.{lt-leb, le-leb, lt-ltb, le-ltb}
-use Rattle.listing.specs.Ends.{nearer}
-use Rattle.listing.proofs.ends.nearest.Statement.{statement}
-use Rattle.listing.proofs.ends.nearest.Tie as tie
+use Rattle.spans.specs.Ends.{nearer}
+use Rattle.spans.proofs.ends.nearest.Statement.{statement}
+use Rattle.spans.proofs.ends.nearest.Tie as tie
 
 returns : tie.Need-returns
 unfolding nearer

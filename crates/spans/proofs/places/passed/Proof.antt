@@ -1,9 +1,9 @@
 -- `places::passed` goes on so many bytes, or to the segment's end. Assumes nothing.
 use borrow.Author.Needs.{needs}
 use borrow.Author.Tests.{lt-ltb, le-ltb}
-use Rattle.listing.specs.Native.{onward}
-use Rattle.listing.proofs.places.passed.Statement.{statement}
-use Rattle.listing.proofs.places.passed.Tie as tie
+use Rattle.spans.specs.Native.{onward}
+use Rattle.spans.proofs.places.passed.Statement.{statement}
+use Rattle.spans.proofs.places.passed.Tie as tie
 
 pub passed-spec : {M : Type 1} → statement M
 passed-spec =

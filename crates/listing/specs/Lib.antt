@@ -1,3 +1,0 @@
--- The definitions that the contracts of `listing` cite.
-pub mod Ends
-pub mod Native

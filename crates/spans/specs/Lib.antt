@@ -1,0 +1,3 @@
+-- The definitions that the contracts of `spans` cite.
+pub mod Ends
+pub mod Native
