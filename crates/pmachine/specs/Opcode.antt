@@ -1,4 +1,5 @@
--- Appendix B: the operands of every first byte and, as far as it is carried, the words taken, the words given and the meaning, in the order of the numbers.
+-- The first bytes in the order of appendix B: of every one the operands, as its entry in chapter 1 of 000 prints them, and, as far as it is carried, the words taken, the words given
+-- and the meaning.
 -- Above: Decoding reads it at the counter, and the code's packed table is held to it; below: Meaning, and the integers of `word`.
 use Prim.Native.Nat.{ℕ, _+_, _-_}
 use mathlib.Core.List.{List, [], _∷_}
