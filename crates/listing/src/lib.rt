@@ -11,4 +11,3 @@ mod table;
 pub use lines::after;
 pub use lines::line;
 pub use routines::listing;
-pub use table::mnemonic;

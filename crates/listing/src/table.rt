@@ -1,14 +1,9 @@
 // Every first byte of appendix B: its mnemonic and, where document 01 carries it, what it does.
-// Above it: the lines of a listing, and whoever names one instruction. Below it: the rows, and how an entry is shown.
+// Above it: the lines of a listing. Below it: the rows, and how an entry is shown.
 use crate::operands::Operands;
 use crate::rows;
 
-// Prints the mnemonic, with the number of a short form, or a dash where appendix B has none.
-pub fn mnemonic(first: u8) {
-    name(first);
-}
-
-// The same, and it answers how many characters that were: 1 is the dash.
+// Prints the mnemonic, with the number of a short form, or a dash where appendix B has none, and answers how many characters that were.
 pub fn name(first: u8) -> usize {
     entry(
         first,

@@ -130,14 +130,6 @@ fn digits(n: u64) -> usize
     k
 }
 
-// Text at the left end of a column of at most 20 characters; it is wider where the text is.
-pub fn column(bytes: &[u8], width: usize) {
-    text(bytes);
-    if bytes.len() < width {
-        blanks(width - bytes.len());
-    }
-}
-
 // At most 20 blanks.
 pub fn blanks(n: usize) {
     text(front(b"                    ", n));
