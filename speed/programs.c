@@ -3,7 +3,7 @@
 #include "programs.h"
 #include <string.h>
 
-const char *const PROGRAM[PROGRAMS] = { "sum", "fib", "scan", "mixed", "records", "choice" };
+const char *const PROGRAM[PROGRAMS] = { "sum", "fib", "scan", "mixed", "records", "choice", "totals" };
 uint8_t seg[SEGMENT];
 uint32_t w2, dict, routines, entry[ROUTINES + 1], most_first;
 uint16_t mem0[N], mem[N];
@@ -148,8 +148,22 @@ static void choice(void) {
     ROUTINE(b, 4); ROUTINE(STUB, 0); session(4);
 }
 
+/* totals: a season's totals. For each record of eight shared words, readings that nearly all use both bytes, the product of the eight is added
+   to the total. A product's right factor, the top of the stack, is a reading each time. */
+static void totals(void) {
+    static const uint8_t b[] = {
+        129, 0, 128, 105, 0, 104,                           /* LDCI 32768, SSTL 2: the first record; SLDC 0, SSTL 1: total */
+        32, 33, 120, 33, 121, 140, 33, 122, 140,            /* SLDL 1, SLDL 2, SIND 0; SLDL 2, SIND 1, MPI; the same with 2 */
+        33, 123, 140, 33, 124, 140, 33, 125, 140,           /* the same with 3, 4, 5 */
+        33, 126, 140, 33, 127, 140, 162, 104,               /* the same with 6, 7; ADI, SSTL 1 */
+        33, 8, 162, 226, 105,                               /* SLDL 2, SLDC 8, ADI, DUP1, SSTL 2: the next record */
+        129, 0, 144, 176, 212, 256 - 37,                    /* LDCI 36864, EQUI, FJP to the second line */
+        138, 256 - 45 };                                    /* UJP to the first */
+    ROUTINE(b, 4); ROUTINE(STUB, 0); session(4);
+}
+
 void program(int p) {
-    static void (*const builds[PROGRAMS])(void) = { sum, fib, scan, mixed, records, choice };
+    static void (*const builds[PROGRAMS])(void) = { sum, fib, scan, mixed, records, choice, totals };
     begin();
     builds[p]();
 }

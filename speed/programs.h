@@ -6,7 +6,7 @@
 #include "pm.h"
 
 /* The bench: S shared words, one region of L words at BASE in a memory of N words. */
-enum { S = 4096, BASE = 5000, L = 4000, N = 16384, SEGMENT = 4096, PROGRAMS = 6, ROUTINES = 255 };
+enum { S = 4096, BASE = 5000, L = 4000, N = 16384, SEGMENT = 4096, PROGRAMS = 7, ROUTINES = 255 };
 extern const char *const PROGRAM[PROGRAMS];
 
 /* The segment that was built last: its bytes, their number, the dictionary's word, the routines and the words of their
