@@ -114,7 +114,7 @@ fn turned(store: &[u8], out: &mut [u8]) {
 
 fn is_sound(b: Bench, memory: &[u16], store: &[u8]) {
     let none = [0u64; 0];
-    if sound::sound(b, memory, store) {
+    if sound_test::is_sound(b, memory, store) {
         tell(b'y', &none, &none);
     } else {
         tell(b'n', &none, &none);

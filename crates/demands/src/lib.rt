@@ -82,10 +82,10 @@ pub fn table() -> [u32; 256]
 
 // ---- any bench, any memory, any store, any numbers
 
-pub fn sound(b: Bench, memory: &[u16], store: &[u8]) -> bool
+pub fn is_sound(b: Bench, memory: &[u16], store: &[u8]) -> bool
     ensures { λ r. ⌜ r ≡ soundB b (now (memory .entry)) (now (store .entry)) ⌝ }
 {
-    sound::sound(b, memory, store)
+    sound_test::is_sound(b, memory, store)
 }
 
 pub fn new_bench(n: usize, s: usize) -> Out

@@ -1,5 +1,5 @@
 // How a request to a slot or a session begins: 11, and then 12. A slot that is to be loaded, or a session that is to be open, is judged by its own
-// record as `sound` reads it, which past the last is not loaded, or not used. Above: every entry but a new bench. Below: sound.
+// record as `sound` reads it, which past the last is not loaded, or not used. Above: every entry but a new bench. Below: sound, and the test of soundness in sound_test.
 ghost use mathlib.Core.Path.{_≡_};
 ghost use mathlib.Core.List.{[]};
 ghost use Rattle.basis.specs.Checks.{ruling};
@@ -8,7 +8,7 @@ ghost use Rattle.sound.specs.Bench.{worldOf};
 ghost use Rattle.entry.specs.Entries.{begins, freeSlot};
 use segment::Verdict;
 use sound::Bench;
-use sound::sound;
+use sound_test::is_sound;
 
 // Whether a slot passes 12 of a loading.
 pub fn is_free(b: Bench, slot: usize) -> bool
@@ -25,7 +25,7 @@ pub fn is_free(b: Bench, slot: usize) -> bool
 pub fn guard(b: Bench, memory: &[u16], store: &[u8], named: bool) -> Verdict
     ensures { λ r. ⌜ rulingOf r ≡ ruling (begins (now (store .entry)) (worldOf b (now (memory .entry))) named) ⌝ }
 {
-    if !sound(b, memory, store) {
+    if !is_sound(b, memory, store) {
         return Verdict::Refused {
             number: 11,
             place: 0,

@@ -7,7 +7,7 @@ ghost use Prim.Native.Nat.{_-_};
 ghost use lib.ListN.{length};
 ghost use Rattle.pmachine.specs.Sound.{Loaded, Ranged};
 ghost use Rattle.plan.specs.Answer.{regsOf};
-ghost use Rattle.machine.specs.Memory.{Placed};
+ghost use Rattle.steps.specs.Memory.{Placed};
 
 // The registers and the kind as eight numbers: 0, 1 or 2 for ready, finished and faulted.
 fn told(q: Cpu, after: &mut [u64; 8]) {

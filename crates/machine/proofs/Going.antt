@@ -17,12 +17,13 @@ use Rattle.pmachine.proofs.Keeps.{Whole, step-whole}
 use Rattle.plan.specs.declared.Facts.{Facts}
 use Rattle.plan.specs.declared.Regs.{Regs}
 use Rattle.plan.specs.Answer.{regsOf}
+use Rattle.steps.specs.declared.Stepped.{Stepped}
+use Rattle.steps.specs.declared.Stepped.the-variants.{Went}
+use Rattle.steps.specs.Memory.{Placed, Steady, wentTo, cameTo, Stood}
 use Rattle.machine.specs.declared.Kind.{Kind as Kinds}
 use Rattle.machine.specs.declared.Kind.the-variants.{Ready}
-use Rattle.machine.specs.declared.Stepped.{Stepped}
-use Rattle.machine.specs.declared.Stepped.the-variants.{Went}
 use Rattle.machine.specs.declared.Turned.{Turned}
-use Rattle.machine.specs.Memory.{kindOf, Placed, Steady, stateAt, wentTo, cameTo, Stood, TurnedTo}
+use Rattle.machine.specs.Memory.{kindOf, stateAt, TurnedTo}
 
 splice-twice : (a e : ℕ) (m : List ℕ) → a ≤ e → e ≤ length m → (ys zs : List ℕ) → length ys ≡ e - a → splice a e zs (splice a e ys m) ≡ splice a e zs m
 splice-twice a e m o f ys zs l =

@@ -1,6 +1,5 @@
-// The step and the turn of one session, on a memory that holds the shared words and the session's region.
-// Above: `session` and the bench; below: `judge`, which only reads, and `commit`, which only writes.
-mod steps;
+// The turn of one session, on a memory that holds the shared words and the session's region.
+// Above: `session` and the bench; below: `steps`, which does one step.
 mod turns;
 
 use plan::Regs;
@@ -25,11 +24,4 @@ pub struct Cpu {
 pub struct Turned {
     pub cpu: Cpu,
     pub done: usize,
-}
-
-// The registers after a step; a fault; or the end.
-pub enum Stepped {
-    Went(Regs),
-    Stuck(u8),
-    Ended,
 }

@@ -1,12 +1,12 @@
 // A turn: up to k steps, stopping when the session is no longer ready.
-// Above: `session` and the bench; below: steps, and what a segment says, read once a turn.
+// Above: `session` and the bench; below: `steps`, and what a segment says, read once a turn.
 use crate::Cpu;
 use crate::Kind;
-use crate::Stepped;
 use crate::Turned;
-use crate::steps::step;
 use plan::Facts;
 use plan::Regs;
+use steps::Stepped;
+use steps::step;
 ghost use mathlib.Core.Path.{_≡_};
 ghost use Prim.Native.Nat.{_-_, _≤_};
 ghost use lib.ListN.{length};
@@ -15,7 +15,8 @@ ghost use Rattle.pmachine.specs.Run.{isReady};
 ghost use Rattle.pmachine.specs.Sound.{Loaded, Ranged};
 ghost use Rattle.plan.specs.Answer.{regsOf};
 ghost use Rattle.plan.specs.Told.{Told, sexOf};
-ghost use Rattle.machine.specs.Memory.{kindOf, Placed, Steady, TurnedTo};
+ghost use Rattle.steps.specs.Memory.{Placed, Steady};
+ghost use Rattle.machine.specs.Memory.{kindOf, TurnedTo};
 
 // What a segment says: sex, dictionary, number of routines, pool and 6+G.
 pub fn facts_of(seg: &[u8]) -> Facts

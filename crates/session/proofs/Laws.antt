@@ -12,7 +12,8 @@ use Rattle.pmachine.proofs.Ranges.{ranged}
 use Rattle.plan.specs.Answer.{regsOf}
 use Rattle.machine.specs.declared.Cpu.{Cpu}
 use Rattle.machine.specs.declared.Turned.{Turned}
-use Rattle.machine.specs.Memory.{kindOf, Placed, TurnedTo}
+use Rattle.steps.specs.Memory.{Placed}
+use Rattle.machine.specs.Memory.{kindOf, TurnedTo}
 use Rattle.session.specs.Session.{cpuFrom, cpuOk, runOf, countOf, RanTo}
 use Rattle.session.proofs.Keeps.{kind-from-of}
 

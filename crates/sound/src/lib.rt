@@ -1,17 +1,13 @@
-// What a bench holds, by value, and the test whether it is sound for the memory and the store that the caller lends.
-// Above: bench, whose every entry begins with this test. Below: session (registers in their ranges) and segment (checks 1 to 8).
+// What a bench holds, by value: slots, session records, and the limits of its memory. specs/Sound says when it is sound.
+// Above: sound_regions and sound_test, which test that, and the entries of the bench. Below: session, for registers.
 ghost use mathlib.Core.Path.{_≡_};
 ghost use lib.ListN.{getD};
 ghost use Rattle.sound.specs.Bench.{noSlot, noSession, slotAt, fresh, at-cpu};
-ghost use Rattle.sound.specs.Sound.{limitsOk, soundB};
+ghost use Rattle.sound.specs.Sound.{limitsOk};
 use bounds::at_most;
 use bounds::both;
 use machine::Cpu;
 use session::no_cpu;
-
-mod regions;
-mod sessions;
-mod slots;
 
 // A part of the store: len bytes from start on.
 pub struct Slot {
@@ -110,17 +106,4 @@ pub fn limits_ok(n: usize, s: usize) -> bool
     ensures { λ r. ⌜ r ≡ limitsOk n s ⌝ }
 {
     both(at_most(n, 1048576), both(at_most(s, 32768), at_most(s, n)))
-}
-
-// Whether the bench is sound for this memory and store.
-pub fn sound(b: Bench, memory: &[u16], store: &[u8]) -> bool
-    ensures { λ r. ⌜ r ≡ soundB b (now (memory .entry)) (now (store .entry)) ⌝ }
-{
-    let slots = b.slots;
-    let records = b.sessions;
-    let kept = sessions::all_ok(store, slots, records);
-    let apart = both(regions::all_apart(records), kept);
-    let placed = both(regions::all_placed(b.n, b.s, records), apart);
-    let loaded = both(slots::all_ok(store, slots), placed);
-    both(limits_ok(b.n, b.s), both(memory.len() == b.n, loaded))
 }

@@ -4,8 +4,8 @@ use native.Mathlib.Omega.{arith}
 use borrow.Author.Needs.{needs}
 use Rattle.pmachine.specs.Run.{isReady}
 use Rattle.plan.specs.Answer.{regsOf}
-use Rattle.machine.specs.declared.Stepped.{Stepped}
-use Rattle.machine.specs.Memory.{wentTo, cameTo}
+use Rattle.steps.specs.declared.Stepped.{Stepped}
+use Rattle.steps.specs.Memory.{wentTo, cameTo}
 use Rattle.machine.proofs.Going.{Going, going-start, going-steady, going-next, going-stop, going-end, now-size}
 use Rattle.machine.proofs.turns.run.Statement.{statement}
 use Rattle.machine.proofs.turns.run.Tie as tie

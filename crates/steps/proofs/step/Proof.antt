@@ -1,0 +1,164 @@
+-- `steps::step` meets its contract: what is judged is what is written. Assumes nothing.
+use mathlib.Core.Path.{refl}
+use native.Mathlib.Omega.{arith}
+use Rattle.pmachine.specs.Run.{written, settled}
+use Rattle.plan.specs.Answer.{outcomeOf}
+use Rattle.steps.proofs.Standing.{stands, room, same}
+use borrow.Author.Needs.{needs}
+use Rattle.steps.proofs.step.Statement.{statement}
+use Rattle.steps.proofs.step.Tie as tie
+
+-- ---- the room for what is written
+
+put-word-requires : tie.Need-put-word-requires
+unfolding outcomeOf
+put-word-requires c κs =
+    let judged = c .before .before .before .before in
+    let steady = judged .before .before .before .before .pre in
+    let fits = room steady (judged .judge-in .ensures) (c .before .before .v .given .1) refl in
+    (steady .placed .order, (steady .placed .inside, omega (arith, fits)))
+
+put-word-requires-2 : tie.Need-put-word-requires-2
+unfolding outcomeOf
+put-word-requires-2 c κs =
+    let judged = c .before .before .before .before in
+    let steady = judged .before .before .before .before .pre in
+    let fits = room steady (judged .judge-in .ensures) (c .before .before .v2 .given .1) refl in
+    (steady .placed .order, (steady .placed .inside, omega (arith, fits)))
+
+put-pair-requires : tie.Need-put-pair-requires
+unfolding outcomeOf
+put-pair-requires c κs =
+    let judged = c .before .before .before .before in
+    let steady = judged .before .before .before .before .pre in
+    let fits = room steady (judged .judge-in .ensures) (c .before .before .x .given .1) refl in
+    (steady .placed .order, (steady .placed .inside, omega (arith, fits)))
+
+cast-mark : tie.Need-cast-mark
+cast-mark c =
+    let steady = c .before .before .before .before .before .before .before .before .pre in
+    omega (arith, steady .ranged .m-high, steady .placed .small)
+
+cast-mark-2 : tie.Need-cast-mark-2
+cast-mark-2 c =
+    let steady = c .before .before .before .before .before .before .before .before .before .pre in
+    omega (arith, steady .ranged .routine-high, steady .loaded .many)
+
+put-mark-requires : tie.Need-put-mark-requires
+unfolding outcomeOf
+put-mark-requires c κs =
+    let told = c .before .before .before .before .before in
+    let judged = told .before .before in
+    let steady = judged .before .before .before .before .pre in
+    let fits = room steady (judged .judge-in .ensures) (told .parent .given .1) refl in
+    (steady .placed .order, (steady .placed .inside, omega (arith, fits)))
+
+-- ---- what each answer leaves
+
+returns : tie.Need-returns
+unfolding outcomeOf settled written
+returns c =
+    let told = c .before .before in
+    let judged = told .before .before in
+    let steady = judged .before .before .before .before .pre in
+    stands steady (judged .judge-in .ensures) (told .sp .given .1) (record { registers = c .moved .ensures; kind = refl; memory = same steady })
+
+returns-2 : tie.Need-returns-2
+unfolding outcomeOf settled
+returns-2 c =
+    let put = c .before .before .before in
+    let told = put .before .before .before in
+    let judged = told .before .before in
+    let steady = judged .before .before .before .before .pre in
+    stands steady (judged .judge-in .ensures) (told .v .given .1) (record { registers = c .moved2 .ensures; kind = refl; memory = put .put-word .ensures })
+
+returns-3 : tie.Need-returns-3
+unfolding outcomeOf settled
+returns-3 c =
+    let put = c .before .before .before in
+    let told = put .before .before .before in
+    let judged = told .before .before in
+    let steady = judged .before .before .before .before .pre in
+    stands steady (judged .judge-in .ensures) (told .v2 .given .1) (record { registers = c .moved3 .ensures; kind = refl; memory = put .put-word2 .ensures })
+
+returns-4 : tie.Need-returns-4
+unfolding outcomeOf settled
+returns-4 c =
+    let put = c .before .before .before in
+    let told = put .before .before .before in
+    let judged = told .before .before in
+    let steady = judged .before .before .before .before .pre in
+    stands steady (judged .judge-in .ensures) (told .x .given .1) (record { registers = c .moved4 .ensures; kind = refl; memory = put .put-pair .ensures })
+
+returns-5 : tie.Need-returns-5
+unfolding outcomeOf settled
+returns-5 c =
+    let put = c .before .before in
+    let marked = put .before .before in
+    let told = marked .before .before .before .before in
+    let judged = told .before .before in
+    let steady = judged .before .before .before .before .pre in
+    let mem = rw (marked .mark .ensures) at (put .put-mark .ensures) in
+    stands steady (judged .judge-in .ensures) (told .parent .given .1) (record { registers = refl; kind = refl; memory = mem })
+
+returns-6 : tie.Need-returns-6
+unfolding outcomeOf settled written
+returns-6 c =
+    let judged = c .before .before .before in
+    let steady = judged .before .before .before .before .pre in
+    stands steady (judged .judge-in .ensures) (c .before .sp2 .given .1) (record { registers = refl; kind = refl; memory = same steady })
+
+returns-7 : tie.Need-returns-7
+unfolding outcomeOf settled
+returns-7 c =
+    let judged = c .before .before .before in
+    let steady = judged .before .before .before .before .pre in
+    stands steady (judged .judge-in .ensures) (c .before .n .given .1) (record { registers = refl; kind = refl; memory = same steady })
+
+returns-8 : tie.Need-returns-8
+unfolding outcomeOf settled
+returns-8 c =
+    let judged = c .before .before in
+    let steady = judged .before .before .before .before .pre in
+    stands steady (judged .judge-in .ensures) (c .enum-told .given .1) (record { registers = refl; kind = refl; memory = same steady })
+
+pub step-spec : {M : Type 1} → statement M
+step-spec =
+    tie.close
+    (tie.spec
+    (λ c κs. search needs)
+    (λ c. search needs)
+    (λ c κs. search needs)
+    (λ c. search needs)
+    put-word-requires
+    (λ c κs. search needs)
+    (λ c. search needs)
+    put-word-requires-2
+    (λ c κs. search needs)
+    (λ c. search needs)
+    put-pair-requires
+    (λ c κs. search needs)
+    (λ c. search needs)
+    cast-mark
+    cast-mark-2
+    (λ c κs. search needs)
+    put-mark-requires
+    (λ c. search needs)
+    (λ c. search needs)
+    (λ c. search needs)
+    (λ c. search needs)
+    returns
+    (λ c. search needs)
+    returns-2
+    (λ c. search needs)
+    returns-3
+    (λ c. search needs)
+    returns-4
+    (λ c. search needs)
+    returns-5
+    (λ c. search needs)
+    returns-6
+    (λ c. search needs)
+    returns-7
+    (λ c. search needs)
+    returns-8)

@@ -1,0 +1,2 @@
+-- What a reader of this crate must believe: its definitions and statements, a module each.
+pub mod Memory

@@ -1,0 +1,93 @@
+// One step of a ready session, on a memory that holds the shared words and the session's region: judged with reads alone, then committed.
+// Above: `machine`, whose turn is many of them; below: `judge`, which only reads, and `commit`, which only writes.
+use plan::Facts;
+use plan::Planned;
+use plan::Regs;
+ghost use mathlib.Core.Path.{_≡_};
+ghost use lib.ListN.{take};
+ghost use Rattle.basis.specs.Part.{part};
+ghost use Rattle.pmachine.specs.Step.{judge, moved as Step·moved};
+ghost use Rattle.plan.specs.Answer.{regsOf, outcomeOf};
+ghost use Rattle.steps.specs.Memory.{Steady, Stood};
+
+// The registers after a step; a fault; or the end.
+pub enum Stepped {
+    Went(Regs),
+    Stuck(u8),
+    Ended,
+}
+
+// The shared words and the region are two parts of one memory: both are lent to the judgement, which cannot write.
+fn judge_in(
+    mem: &[u16],
+    at: usize,
+    end: usize,
+    s: usize,
+    seg: &[u8],
+    facts: Facts,
+    r: Regs,
+) -> Planned
+    requires { ⌜ Steady (now seg) facts (now mem) at end s r ⌝ }
+    ensures { λ p. ⌜ outcomeOf r p ≡ judge (now (seg .entry)) (take s (now (mem .entry))) (part at end (now (mem .entry))) (regsOf r) ⌝ }
+{
+    judge::judge(seg, facts, &mem[at..end], &mem[..s], r)
+}
+
+// The registers with another stack pointer and counter, in the same record and routine.
+fn moved(r: Regs, sp: usize, counter: usize) -> Regs
+    ensures { λ q. ⌜ regsOf q ≡ Step·moved (regsOf r) sp counter ⌝ }
+{
+    Regs {
+        sp,
+        m: r.m,
+        counter,
+        routine: r.routine,
+    }
+}
+
+pub fn step(
+    mem: &mut [u16],
+    at: usize,
+    end: usize,
+    s: usize,
+    seg: &[u8],
+    facts: Facts,
+    r: Regs,
+) -> Stepped
+    requires { ⌜ Steady (now seg) facts (now mem) at end s r ⌝ }
+    ensures { λ q. ⌜ Stood (regsOf r) (judge (now (seg .entry)) (take s (now (mem .entry))) (part at end (now (mem .entry))) (regsOf r)) at end (now (mem .entry)) q (now (mem .exit)) ⌝ }
+{
+    match judge_in(mem, at, end, s, seg, facts, r) {
+        Planned::Move(sp, next) => Stepped::Went(moved(r, sp, next)),
+        Planned::Put(v, sp, next, place) => {
+            commit::put_word(mem, at, end, place, v);
+            Stepped::Went(moved(r, sp, next))
+        }
+        Planned::Top(v, sp, next) => {
+            commit::put_word(mem, at, end, sp, v);
+            Stepped::Went(moved(r, sp, next))
+        }
+        Planned::Swap(x, y, next) => {
+            commit::put_pair(mem, at, end, r.sp, x, y);
+            Stepped::Went(moved(r, r.sp, next))
+        }
+        Planned::Call(parent, next, sp, counter, k) => {
+            let mark = commit::mark(parent, r.m as u16, next, r.routine as u16);
+            commit::put_mark(mem, at, end, sp, mark);
+            Stepped::Went(Regs {
+                sp,
+                m: sp,
+                counter,
+                routine: k,
+            })
+        }
+        Planned::Back(sp, m, counter, routine) => Stepped::Went(Regs {
+            sp,
+            m,
+            counter,
+            routine,
+        }),
+        Planned::Bad(n) => Stepped::Stuck(n),
+        Planned::Finish => Stepped::Ended,
+    }
+}
