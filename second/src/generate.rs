@@ -634,6 +634,14 @@ pub fn telling_integer(rng: &mut Rng, beside: u16) -> u16 {
     }
 }
 
+/// Factors at the limits of a bit, a byte and a word.
+pub const FACTORS: [u16; 11] = [0, 1, 2, 127, 128, 255, 256, 257, 32_767, 32_768, 65_535];
+
+/// A factor: one of these as often as any word at all.
+pub fn telling_factor(rng: &mut Rng) -> u16 {
+    if rng.chance(1, 2) { rng.pick(&FACTORS, 1) } else { rng.next() as u16 }
+}
+
 /// A length of region, mostly near the least that fits.
 fn region_length(rng: &mut Rng, segment: &Segment) -> i64 {
     let floor = 6 + i64::from(segment.global_size());

@@ -14,6 +14,7 @@ pub mod fast;
 pub mod generate;
 pub mod hand;
 pub mod machine;
+pub mod products;
 pub mod reader;
 pub mod segment;
 pub mod set;

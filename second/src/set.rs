@@ -1,6 +1,7 @@
 //! The cases that are written: the set that is committed, and fresh ones
-//! without end.  Both are made of the same series; a series puts several cases
-//! on one world, so that few lines stand between them.
+//! without end.  Both are made of the same series, but for products, which only
+//! the first has; a series puts several cases on one world, so that few lines
+//! stand between them.
 
 use crate::cases::Writer;
 use crate::damage::{damage, DAMAGES, LARGE};
@@ -11,6 +12,7 @@ use crate::generate::{
 };
 use crate::hand::table;
 use crate::machine::Kind;
+use crate::products;
 use crate::steps::{base, draw, placed, Place};
 use crate::world::{Call, Request, World};
 use std::io::{self, Write};
@@ -24,6 +26,8 @@ const SERIES: usize = 16;
 fn drawn(outcome: Outcome) -> usize {
     match outcome {
         (Some(150), 9) => 100,
+        // products worked by hand count too; as many are to be drawn beside them
+        (Some(140), GONE_ON) => 100,
         (Some(128..), GONE_ON | FINISHED | 6 | 7 | 9 | 10) => 2 * WANTED,
         _ => WANTED + 4,
     }
@@ -67,7 +71,9 @@ impl<'a, Q: Write, A: Write> Set<'a, Q, A> {
             self.sequence()?;
         }
         self.writer.remark("new benches with numbers at limits")?;
-        self.new_benches()
+        self.new_benches()?;
+        self.writer.remark("products: words at limits by every word, in both orders")?;
+        self.products()
     }
 
     /// Fresh cases of all sorts, so many.
@@ -178,6 +184,18 @@ impl<'a, Q: Write, A: Write> Set<'a, Q, A> {
         self.writer.case(next)?;
         self.ask(Request::Entry(Call::Turn { session: place.session as u64, k: 1 }))?;
         Ok(weight)
+    }
+
+    // -------------------------------------------------------------- products
+
+    /// Words at limits by every word.  Nothing here is left to chance, so fresh
+    /// cases do without them.
+    fn products(&mut self) -> io::Result<()> {
+        for (_, world) in products::cases() {
+            self.writer.case(world)?;
+            self.ask(Request::Entry(products::TURN))?;
+        }
+        Ok(())
     }
 
     // -------------------------------------------------------------- segments

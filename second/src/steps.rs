@@ -5,8 +5,8 @@
 use crate::bench::{Record, Slot};
 use crate::coverage::came_to;
 use crate::generate::{
-    operand_size, registers, session_case, telling_integer, telling_mark, telling_operands,
-    telling_word, Outcome, Rng, RunCase, View,
+    operand_size, registers, session_case, telling_factor, telling_integer, telling_mark,
+    telling_operands, telling_word, Outcome, Rng, RunCase, View,
 };
 use crate::machine::{self, Instruction, Kind, Op, Session};
 use crate::segment::Segment;
@@ -163,6 +163,7 @@ fn set_words(
         for word in region.iter_mut().skip(session.sp as usize).take(row.taken as usize) {
             *word = match row.op {
                 Op::LoadIndexed | Op::StoreIndirect => telling_word(rng, length, shared),
+                Op::Multiply => telling_factor(rng),
                 _ => telling_integer(rng, last),
             };
             last = *word;

@@ -19,6 +19,7 @@ pub fn fill(t: &mut Table) {
     indirect_words(t);
     store_indirect(t);
     integers(t);
+    products(t);
     comparisons(t);
     logic_and_stack(t);
     subrange_check(t);
@@ -211,6 +212,41 @@ fn integers(t: &mut Table) {
     one(t, 237, MINUS_1, 0);
     one(t, 238, LEAST, MOST); // DECI
     one(t, 238, 0, MINUS_1);
+}
+
+/// A product, with either word as TOS.
+fn product(t: &mut Table, one: u16, other: u16, result: u16) {
+    two(t, 140, one, other, result);
+    if one != other {
+        two(t, 140, other, one, result);
+    }
+}
+
+fn products(t: &mut Table) {
+    t.says(r#"000 MPI "Multiply TOS by TOS-1"; "Integers wrap to 16 bits, two's complement.""#);
+    product(t, 0, MINUS_1, 0); // no part of it stays
+    product(t, 1, 43_981, 43_981); // all parts of it stay
+    product(t, 5, 171, 855); // a low byte by a low byte, into the high byte
+    product(t, 2, 128, 256); // the low byte's last bit goes over
+    product(t, 127, 128, 16_256); // 128*128 less 128
+    product(t, 255, 255, 65_025); // the largest product of two bytes
+    product(t, 3, 512, 1_536); // only the high byte of 512 counts
+    product(t, 256, 4_660, 13_312); // 12 34 to 34 00: the low byte moves up
+    product(t, 17, 4_660, 13_684); // 79,220 less 65,536: both bytes of one count
+    product(t, 1_000, 1_001, 17_960); // 1,001,000 less 15*65,536: both of both
+    product(t, 255, 256, 65_280); // 255 in the high byte
+    product(t, 255, 257, MINUS_1); // 65,535, no bit twice
+    product(t, 256, 256, 0); // 65,536: high byte by high byte is lost
+    product(t, 257, 257, 513); // 66,049 less 65,536
+    product(t, 257, MINUS_1, 65_279); // -257
+    product(t, MOST, 2, 65_534); // -2
+    product(t, MOST, MOST, 1); // 2^30 less 2^16, plus 1
+    product(t, LEAST, 2, 0); // 65,536
+    product(t, LEAST, 3, LEAST); // 98,304 less 65,536
+    product(t, LEAST, LEAST, 0); // 2^30
+    product(t, LEAST, MOST, LEAST); // 2^30 less 32,768
+    product(t, MINUS_1, MOST, 32_769); // -32,767
+    product(t, MINUS_1, MINUS_1, 1);
 }
 
 fn comparisons(t: &mut Table) {
