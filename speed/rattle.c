@@ -1,11 +1,15 @@
 /* The proved machine under the harness's type: the one file that knows the names and parameters that its archive exports.
-   A slice is a pointer and then a length. Registers, kind, fault and place come back in `after`. */
+   A slice is a pointer and then a length. Registers, kind, fault and place come back in `after`. Compile it with -DTURN=name, and with
+   -Dpm_turn=name for an archive whose function has another name. */
 #include "pm.h"
+#ifndef TURN
+#define TURN turn_rattle
+#endif
 
 extern uint64_t pm_turn(uint16_t *mem, uint64_t words, uint64_t at, uint64_t end, uint64_t s, const uint8_t *seg, uint64_t bytes,
     uint64_t sp, uint64_t m, uint64_t counter, uint64_t routine, uint64_t *after, uint64_t k);
 
-uint64_t turn_rattle(uint16_t *mem, uint64_t nmem, const uint8_t *seg, uint64_t nseg, uint64_t *r, uint64_t k) {
+uint64_t TURN(uint16_t *mem, uint64_t nmem, const uint8_t *seg, uint64_t nseg, uint64_t *r, uint64_t k) {
     uint64_t after[8] = { 0 };
     if (r[R_KIND] != READY) return 0;
     uint64_t done = pm_turn(mem, nmem, r[R_BASE], r[R_BASE] + r[R_L], r[R_S], seg, nseg,

@@ -245,26 +245,21 @@ abs-fits n x h = subst (λ (a : ℕ). a < 2 ^ n) (magnitude n x h) (modulo-below
 pub abs-some : (n x : ℕ) → x < 2 ^ n → (x ≡ 0 → ⊥) → 0 < abs n x
 abs-some n x h some = signs n x h (λ (z : ℤ). 0 < natAbs z) (λ _. omega arith) (λ u _ _. omega arith)
 
--- ---- the product, one bit of l at a time: what was added up, and f times what is left of l, keep their sum modulo m
+-- ---- the product, one digit of l at a time in base b: what was added up, and f times what is left of l, keep their sum modulo m. p is f times
+-- the lowest digit, f′ is f moved up by one digit.
 
-module _ (m s f l f′ : ℕ) (twice : f′ ≡ (f + f) % m) where
-  -- the doubled factor, times half of l
-  doubled : (k : ℕ) → (f + f) * (l / 2) + k ≡ f * l + s → (k + f′ * (l / 2)) % m ≡ (s + f * l) % m
-  doubled k e =
-      same-mod m ((f + f) / m * (l / 2)) 0 (k + f′ * (l / 2)) (s + f * l)
-      (omega (arith, e, ap (λ (t : ℕ). t * (l / 2)) (div-add-mod' (f + f) m), ap (λ (t : ℕ). t * (l / 2)) twice))
-
-  pub bit-clear : (l % 2 ≡ 1 → ⊥) → (s + f′ * (l / 2)) % m ≡ (s + f * l) % m
-  bit-clear h =
-      let e : l ≡ l / 2 + l / 2 = omega arith in
-      doubled s (omega (arith, ap (λ (t : ℕ). f * t) e))
-
-  pub bit-set : (s′ : ℕ) → s′ ≡ (s + f) % m → l % 2 ≡ 1 → (s′ + f′ * (l / 2)) % m ≡ (s + f * l) % m
-  bit-set s′ more h =
-      let e : l ≡ l / 2 + l / 2 + 1 = omega arith in
-      ap (λ (t : ℕ). (t + f′ * (l / 2)) % m) more
-      ∙ mod-add-mod (s + f) m (f′ * (l / 2))
-      ∙ doubled (s + f) (omega (arith, ap (λ (t : ℕ). f * t) e))
+pub digit : (m b s f l p f′ : ℕ) → p ≡ f * (l % b) % m → f′ ≡ f * b % m → ((s + p) % m + f′ * (l / b)) % m ≡ (s + f * l) % m
+digit m b s f l p f′ part moved =
+    mod-add-mod (s + p) m (f′ * (l / b))
+    ∙ same-mod m (f * (l % b) / m + f * b / m * (l / b)) 0 (s + p + f′ * (l / b)) (s + f * l)
+    (omega (
+      arith,
+      part,
+      div-add-mod' (f * (l % b)) m,
+      ap (λ (t : ℕ). t * (l / b)) moved,
+      ap (λ (t : ℕ). t * (l / b)) (div-add-mod' (f * b) m),
+      ap (λ (t : ℕ). f * t) (div-add-mod' l b),
+    ))
 
 -- ---- the names at width 16
 

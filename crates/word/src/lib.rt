@@ -1,6 +1,7 @@
 // Arithmetic of 16-bit integers: they wrap, in two's complement. A word below 32,768 is its own integer, and one from there on is 65,536 less.
 // Below: basis, whose laws are cited, and std's wrapping add and subtract. Above: the machine's instructions. No function asks anything of its words.
 ghost use mathlib.Core.Path.{_≡_};
+ghost use Prim.Native.Nat.{_*_, _%_};
 ghost use Rattle.basis.specs.Integer.{addOf, subOf, mulOf, quotOf, remOf, negOf, magOf, incOf, decOf};
 
 pub fn add(x: u16, y: u16) -> u16
@@ -33,7 +34,14 @@ pub fn dec(x: u16) -> u16
     std::num::wrapping_sub_u16(x, 1)
 }
 
-// One turn for each bit of y: x, doubled at every turn, is added where the bit is 1.
+// A word times a byte, cut to a word.
+fn times(x: u16, byte: u8) -> u16
+    ensures { λ r. ⌜ r ≡ x * byte % 65536 ⌝ }
+{
+    (x as u32 * byte as u32 % 65536) as u16
+}
+
+// One turn for each byte of y, the lowest first: x, moved up by a byte at every turn, times that byte is added.
 pub fn mul(x: u16, y: u16) -> u16
     ensures { λ r. ⌜ r ≡ mulOf x y ⌝ }
 {
@@ -41,11 +49,9 @@ pub fn mul(x: u16, y: u16) -> u16
     let mut factor = x;
     let mut left = y;
     while left != 0 {
-        if left % 2 == 1 {
-            sum = std::num::wrapping_add_u16(sum, factor);
-        }
-        factor = std::num::wrapping_add_u16(factor, factor);
-        left = left / 2;
+        sum = std::num::wrapping_add_u16(sum, times(factor, (left % 256) as u8));
+        factor = factor % 256 * 256;
+        left = left / 256;
     }
     sum
 }

@@ -1,10 +1,9 @@
 -- `word::mul` meets its contract. Assumes nothing.
 use mathlib.Core.Path.{_≡_, ap, _∙_}
-use mathlib.Core.Logic.{⊎-elim}
 use Prim.Native.Nat.{ℕ, _+_, _*_, _%_, _<_}
 use native.Mathlib.Omega.{arith}
 use borrow.Author.Needs.{needs}
-use Rattle.basis.proofs.Integer.{mul-is, bit-clear, bit-set}
+use Rattle.basis.proofs.Integer.{mul-is, digit}
 use Rattle.word.proofs.mul.Statement.{statement}
 use Rattle.word.proofs.mul.Tie as tie
 
@@ -17,11 +16,10 @@ abbrev μ-loop : tie.MeasureT-loop
 loop-again : tie.Need-loop-again Inv-loop μ-loop
 loop-again c =
     let l = c .before .before .before .loop in
-    let twice = c .wrapping-add-u162 in
-    ⊎-elim
-    (λ w. (search needs, bit-set 65536 (l .sum) (l .factor) (l .left) (twice .result) (twice .ensures) (c .before .if1 .sum) (w .2 ∙ w .1 .ensures) (w .0 .taken) ∙ l .inv .1))
-    (λ w. (search needs, rw (w .1) (bit-clear 65536 (l .sum) (l .factor) (l .left) (twice .result) (twice .ensures) (w .0 .left) ∙ l .inv .1)))
-    (c .before .if1 .came)
+    let p = c .before .times in
+    let s = c .wrapping-add-u16 in
+    let moved : l .factor % 256 * 256 ≡ l .factor * 256 % 65536 = omega arith in
+    (search needs, rw (s .ensures) (digit 65536 256 (l .sum) (l .factor) (l .left) (p .result) (l .factor % 256 * 256) (p .ensures) moved ∙ l .inv .1))
 
 returns : tie.Need-returns Inv-loop μ-loop
 returns c =
@@ -30,4 +28,4 @@ returns c =
     omega (arith, l .inv .1, mul-is (a .x) (a .y) (search needs) (search needs), ap (λ (t : ℕ). l .factor * t) (c .loop-test .left))
 
 pub mul-spec : {M : Type 1} → statement M
-mul-spec = tie.close (tie.spec Inv-loop μ-loop (λ c. omega arith) (search needs) (search needs) (λ c. omega arith) loop-again returns)
+mul-spec = tie.close (tie.spec Inv-loop μ-loop (λ c. omega arith) (λ c. omega arith) (λ c κs. search needs) (λ c κs. search needs) (λ c. omega arith) (λ c. omega arith) loop-again returns)
