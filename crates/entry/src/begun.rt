@@ -1,5 +1,6 @@
 // How a request to a slot or a session begins: 11, and then 12. A slot that is to be loaded, or a session that is to be open, is judged by its own
-// record as `sound` reads it, which past the last is not loaded, or not used. Above: every entry but a new bench. Below: sound, and the test of soundness in sound_test.
+// record as `sound` reads it, which past the last is not loaded, or not used.
+// Above: every entry but a new bench. Below: sound, and the test of soundness in sound_test.
 ghost use mathlib.Core.Path.{_≡_};
 ghost use mathlib.Core.List.{[]};
 ghost use Rattle.basis.specs.Checks.{ruling};

@@ -1,5 +1,5 @@
 -- What a sound bench gives, as numbers: facts of the memory, of a slot, of one open session, of two; and what keeps it sound.
--- Above: bench, isolation. Below: specs/Sound, Lists.
+-- Above: the entries, isolation. Below: specs/Sound, Lists.
 use mathlib.Core.Path.{_≡_, refl, sym, _∙_}
 use mathlib.Core.List.{List}
 use mathlib.Core.Bool.{Bool, true, false, false≢true}

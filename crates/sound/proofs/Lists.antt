@@ -1,5 +1,5 @@
 -- Lists whose every element passes, and lists in which all are apart: one element looked at, and one replaced.
--- Above: Facts, bench, isolation. Below: `all` and `allApart` of specs/Sound.
+-- Above: Facts, the entries, isolation. Below: `all` and `allApart` of specs/Sound.
 use mathlib.Core.Path.{_≡_, refl, sym, ap, _∙_}
 use mathlib.Core.List.{List, [], _∷_, map}
 use mathlib.Core.Bool.{Bool, true, false, _&&_, false≢true}

@@ -1,5 +1,5 @@
--- Loops over sixteen, of any test: what the proofs of the functions cite.
--- Above: proofs/slots, proofs/sessions, proofs/regions. Below: lists.
+-- Loops over sixteen, of any test: what the proofs of the tests cite.
+-- Above: the proofs of sound_regions and sound_test. Below: lists.
 use mathlib.Core.Path.{_≡_, sym, _∙_}
 use mathlib.Core.List.{List, [], _∷_}
 use mathlib.Core.Bool.{Bool, true, false, _&&_, not}

@@ -1,5 +1,5 @@
 -- What the bench holds, in the words of document 01. The types Slot, Session and Bench are those of the program.
--- Above: Sound, and the entries of crate bench. Below: specs/Below for a session's state.
+-- Above: Sound, and the entries. Below: specs/Below for a session's state.
 use mathlib.Core.List.{List}
 use mathlib.Core.Bool.{true, false}
 use Prim.Native.Nat.{ℕ, _+_}

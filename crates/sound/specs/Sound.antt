@@ -1,5 +1,6 @@
 -- "A bench is sound when ..": the sentence of document 01 as tests, in its order.
--- Above: the entries of crate bench, which refuse with 11 where this fails. Below: specs/Bench, and the session's ranges in specs/Below.
+-- Above: `sound_test`, which decides it, and the entries, which refuse with 11 where it fails. Below: specs/Bench, and the session's ranges in
+-- specs/Below.
 use mathlib.Core.Path.{_≡_}
 use mathlib.Core.List.{List, [], _∷_}
 use mathlib.Core.Bool.{Bool, true, _&&_, _||_, not}

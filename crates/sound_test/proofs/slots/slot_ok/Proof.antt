@@ -1,4 +1,4 @@
--- `sound_test::slots::slot_ok` meets its contract. What it cites of this crate's laws is in proofs/Loops.
+-- `sound_test::slots::slot_ok` meets its contract.
 use Rattle.basis.specs.Bools.{every}
 use Rattle.sound.specs.Sound.{slotOk}
 use borrow.Author.Needs.{needs}
