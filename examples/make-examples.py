@@ -1,6 +1,6 @@
 #!/usr/bin/env python3
 # Makes the example files beside it (small.seg is document 01's and is not made): two farms' reports on a shared archive, the two reports
-# of the spring accident, a mean that divides by the number of readings, and a segment that is refused.
+# of the spring accident, a mean that divides by the number of readings, a report with a routine that was never linked, and a segment that is refused.
 # `make-examples.py --demo` prints the bytes that stand as constants in crates/pond_run/src/farms.rt.
 import os
 import sys
@@ -57,11 +57,19 @@ MEAN = [
 ]
 
 
-def unlinked():
-    """A segment that declares a routine 2 which was never linked: its entry is 0."""
-    words = [11, 0, None, None, None, None, 1, 0, 2, 0, 0, 2, 15, 0, 32, 0]
-    out = b''.join(b'NO' if word is None else word.to_bytes(2, LEAST) for word in words)
-    return out[:4] + b'UNLINKED' + out[12:] + bytes([0x96, 0])
+def two_routines(name, entries, code):
+    """Routine 1 with one global and its code from byte 32 on; routine 2 is declared. Their entries are 15 and 0 where only routine 1 is linked."""
+    words = [11, 0, None, None, None, None, 1, 0, 2, 0, 0, 2, *entries, 32 + len(code) - 2, 1]
+    out = b''.join(b'..' if word is None else word.to_bytes(2, LEAST) for word in words)
+    return out[:4] + name.ljust(8).encode() + out[12:] + bytes(code)
+
+
+# The sum of two readings, and then a routine that is to print it.
+PRINTED = [
+    12, 15, 0xA2, 0xA5, 1,  # SLDC12 SLDC15 ADI SRO 1
+    0x91, 2,                # CPG 2
+    0x9C, 0x96, 0,          # NOP RPU 0
+]
 
 
 STALE = 46
@@ -75,7 +83,8 @@ FILES = {
     'reads.seg': segment('READS', 5, READS),
     'writes.seg': segment('WRITES', 5, WRITES),
     'mean.seg': segment('MEAN', 1, MEAN),
-    'unlinked.seg': unlinked(),
+    'unlinked.seg': two_routines('UNLINKED', [15, 0], PRINTED),
+    'no-start.seg': two_routines('NO-START', [0, 15], PRINTED),
     'empty.words': bytes(4),
     'archive.words': b''.join(w.to_bytes(2, LEAST) for w in ARCHIVE),
 }

@@ -41,13 +41,16 @@ static uint8_t any_opcode(void) {
     uint32_t c = any(10);
     return c == 0 ? any(64) : c == 1 ? 96 + any(16) : c == 2 ? 120 + any(8) : c == 3 ? any(256) : long_form[any(sizeof long_form)];
 }
-/* A program with some of its code bytes, its pool, its registers and its words replaced; segment and session stay sound. */
+/* A program with some of its code bytes, its pool, its registers and its words replaced, and some routines not linked; segment and session stay sound. */
 static void damaged(int it) {
     most_first = any(2);
     program(it % PROGRAMS);
     uint32_t hits = any(9);
     for (uint32_t i = 0; i < hits; i++) seg[28 + any(2 * dict - 28)] = any(3) ? any_opcode() : any(256);
-    for (uint32_t k = 2; k <= routines; k++) { put(entry[k] - 1, 30); put(entry[k], any(4) ? any(8) : any(32768)); }
+    for (uint32_t k = 2; k <= routines; k++) {
+        put(entry[k] - 1, 30); put(entry[k], any(4) ? any(8) : any(32768));
+        if (any(8) == 0) put(dict + k, 0);
+    }
     uint32_t pool = any(3) ? 11 + any(w2 / 2 - 11) : 0, floor = 6 + regs0[R_G];
     put(7, pool); regs0[R_POOL] = pool;
     if (any(3) == 0) regs0[R_SP] = floor + any(12);

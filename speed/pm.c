@@ -45,7 +45,9 @@ static inline uint32_t seg_word(const uint8_t *seg, uint32_t k, int most_first) 
 /* A call of routine k whose lexical parent is `parent`: the mark is MSSTAT, MSDYN, MSIPC, MSENDV, MSPROC. */
 #define CALL(k, parent) do { \
         if ((k) < 1 || (k) > n) FAULT(8); \
-        uint32_t entry_ = seg_word(seg, d + (k), most_first), size_ = seg_word(seg, entry_, most_first); \
+        uint32_t entry_ = seg_word(seg, d + (k), most_first); \
+        if (entry_ == 0) FAULT(8); /* declared, not linked */ \
+        uint32_t size_ = seg_word(seg, entry_, most_first); \
         if (sp < floor + 5 + size_) FAULT(4); \
         sp -= 5 + size_; \
         reg[sp] = (parent); reg[sp + 1] = m; reg[sp + 2] = at; reg[sp + 3] = 1; reg[sp + 4] = proc; \

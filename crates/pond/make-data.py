@@ -25,11 +25,11 @@ def sex(first, second):
     return bytes(SMALL[:12]) + bytes([first, second]) + bytes(SMALL[14:])
 
 
-# a segment of so many words, its dictionary at d, with EXITIC 22 and DATASIZE 1 for each entry
+# a segment of so many words, its dictionary at d, with EXITIC 22 and DATASIZE 1 for each entry; an entry of 0 is a routine that is not linked
 def many(words, d, entries):
     seg = put(SMALL[:22].ljust(2 * words, b'\0'), (DICT, d), (d, len(entries)))
     for k, e in enumerate(entries):
-        seg = put(seg, (d + 1 + k, e), (e - 1, 22), (e, 1))
+        seg = put(seg, (d + 1 + k, e), *([(e - 1, 22), (e, 1)] if e else []))
     return seg
 
 
@@ -48,7 +48,7 @@ def program(*routines):
     return seg
 
 
-LDCI, UJP, DVI, CPG, RPU, ADI, SBI, SRO, NEQI, DECI, TJP = 129, 138, 141, 145, 150, 162, 163, 165, 177, 238, 241
+LDCI, UJP, DVI, CPG, SCPI1, RPU, ADI, SBI, SRO, NEQI, DECI, TJP = 129, 138, 141, 145, 239, 150, 162, 163, 165, 177, 238, 241
 SLDL1, SLDO1, SLDO2, SSTL1, SIND0 = 32, 48, 49, 104, 120
 
 # the sum of 10 to 1 in global 1, -7 in global 2, and 42 in global 4 by a call of routine 2: 4 + 10 * 11 + 4 + 1 + 7 + 1 = 127 steps
@@ -61,6 +61,11 @@ READS = program((1, bytes([LDCI, 2, 128, SIND0, SRO, 1, RPU, 0])))
 DIVIDES = program((0, bytes([5, 0, DVI, RPU, 0])))
 LOOPS = program((0, bytes([UJP, 256 - 2, RPU, 0])))
 WIDE = program((900, bytes([7, SRO, 0x83, 0x84, RPU, 0])))
+
+# a call of routine 2, which is not linked: with room, with a full stack, and through a broken link
+def unlinked(*code):
+    return put(program((0, bytes([*code, RPU, 0])), (0, bytes([RPU, 0]))), (13, 0))
+
 
 # what is not carried, by appendix B: instructions with operands of every form, an unused number, what is told of native code, native code;
 # and one that the end of the segment cuts off
@@ -87,7 +92,10 @@ FILES = {
     'entry15': small((12, 15)), 'entry65535': small((12, 65535)),
     'data32767': small((14, 32767)), 'data32768': small((14, 32768)), 'data65535': small((14, 65535)),
     'exit21': small((13, 21)), 'exit22': small((13, 22)), 'exit31': small((13, 31)), 'exit32': small((13, 32)), 'exit65535': small((13, 65535)),
-    'two': TWO, 'second6': put(TWO, (13, 19)), 'second7': put(TWO, (17, 32768)), 'second8': put(TWO, (16, 40)), 'first8': put(TWO, (14, 21), (13, 0)),
+    'two': TWO, 'second0': put(TWO, (13, 0)), 'second1': put(TWO, (13, 1)), 'second11': put(TWO, (13, 11)), 'second65535': put(TWO, (13, 65535)),
+    'unlinked254': many(300, 11, [268] + [0] * 254), 'last11': put(many(300, 11, [268] + [0] * 254), (11 + 255, 11)), 'after0': put(many(20, 11, [16, 0, 18]), (14, 11)),
+    'calls2': unlinked(CPG, 2), 'full2': unlinked(*[1] * 10, CPG, 2), 'broken2': unlinked(SCPI1, 2), 'calls3': unlinked(CPG, 3),
+    'second6': put(TWO, (13, 19)), 'second7': put(TWO, (17, 32768)), 'second8': put(TWO, (16, 40)), 'first8': put(TWO, (14, 21), (13, 0)),
     'order2': put(sex(0, 0), (RELOC, 1)), 'order3': small((RELOC, 1), (POOL, 10), (DICT, 10)), 'order4': small((POOL, 10), (DICT, 10)),
     'same': many(20, 11, [15, 15]), 'shares': small((12, 12)),
     'inside': put(SMALL[:22].ljust(80, b'\0'), (DICT, 12), (12, 22), *[(w, 13) for w in range(13, 35)]),

@@ -1,8 +1,12 @@
 //! What the cases written came to: steps by first byte and outcome, refusals
 //! by entry, damages; and what is missing of what document 01 makes possible.
 
-use crate::generate::{can_go_well, possible_outcomes, possible_refusals, Outcome, FINISHED, GONE_ON};
-use crate::machine::{self, Kind};
+use crate::generate::{
+    can_go_well, possible_outcomes, possible_refusals, Outcome, BACK_TO_UNLINKED, FINISHED, GONE_ON,
+    LINK_BEFORE_UNLINKED, UNLINKED, UNLINKED_WHEN_FULL,
+};
+use crate::machine::{self, Kind, Op, Session};
+use crate::segment::Segment;
 use crate::world::{Answer, Call, Request, World};
 use std::collections::BTreeMap;
 
@@ -14,6 +18,8 @@ pub struct Coverage {
     pub steps_done: u64,
     /// Turns of one step, by first byte and what the step came to.
     pub steps: BTreeMap<Outcome, usize>,
+    /// Turns of one step in a routine that is unlinked.
+    pub in_unlinked: usize,
     /// Requests by name and refusal (0 none).
     pub refusals: BTreeMap<(&'static str, u32), usize>,
     /// Damages by name and whether the bench is sound after it.
@@ -24,8 +30,55 @@ pub struct Coverage {
     pub complaints: Vec<String>,
 }
 
-/// The first byte that a turn of one step will meet, if it is one.
-pub type AboutTo = Option<Option<u8>>;
+/// What a step will meet.
+#[derive(Clone, Copy, Debug, PartialEq, Eq)]
+pub struct AboutTo {
+    /// The first byte; `None` beyond the end.
+    pub first: Option<u8>,
+    /// A call of an unlinked routine,
+    calls_unlinked: bool,
+    /// and a stack that has no room for a mark.
+    full: bool,
+    /// The routine number is that of an unlinked one.
+    in_unlinked: bool,
+}
+
+/// Whether a number is that of an unlinked routine.
+fn is_unlinked(segment: &Segment, number: u64) -> bool {
+    segment.routine(number).is_some_and(|routine| !routine.is_linked())
+}
+
+impl AboutTo {
+    pub fn meet(segment: &Segment, session: &Session) -> AboutTo {
+        let counter = usize::try_from(session.counter).unwrap_or(usize::MAX);
+        let called = machine::decode(segment, session.counter).ok().filter(|decoded| {
+            matches!(
+                decoded.instruction.op,
+                Op::CallLocal | Op::CallGlobal | Op::CallIntermediate
+            )
+        });
+        AboutTo {
+            first: segment.bytes.get(counter).copied(),
+            calls_unlinked: called.is_some_and(|call| is_unlinked(segment, call.value as u64)),
+            full: session.sp < 6 + u64::from(segment.global_size()) + 5,
+            in_unlinked: is_unlinked(segment, session.routine),
+        }
+    }
+
+    /// What the step came to, by the session after it.
+    pub fn outcome(&self, segment: &Segment, session: &Session) -> Outcome {
+        let end = match came_to(session.kind) {
+            8 if self.calls_unlinked && self.full => UNLINKED_WHEN_FULL,
+            8 if self.calls_unlinked => UNLINKED,
+            9 if self.calls_unlinked => LINK_BEFORE_UNLINKED,
+            GONE_ON if self.first == Some(150) && is_unlinked(segment, session.routine) => {
+                BACK_TO_UNLINKED
+            }
+            end => end,
+        };
+        (self.first, end)
+    }
+}
 
 fn entry_name(request: Request) -> &'static str {
     match request {
@@ -50,31 +103,35 @@ pub fn came_to(kind: Kind) -> u32 {
 }
 
 impl Coverage {
-    /// To be asked before a request is put.
-    pub fn before(&self, request: Request, world: &World) -> AboutTo {
+    /// To be asked before a request is put; for a turn of one step what it
+    /// will meet.
+    pub fn before(&self, request: Request, world: &World) -> Option<AboutTo> {
         let Request::Entry(Call::Turn { session, k: 1 }) = request else { return None };
         let record = world.bench.records.get(usize::try_from(session).ok()?)?;
-        let bytes = world.segment_bytes(record.slot)?;
-        let counter = usize::try_from(record.session.counter).ok()?;
-        Some(bytes.get(counter).copied())
+        let segment = Segment::judge(world.segment_bytes(record.slot)?).ok()?;
+        Some(AboutTo::meet(&segment, &record.session))
     }
 
     /// To be told after a request was put.
-    pub fn after(&mut self, about_to: AboutTo, request: Request, answer: &Answer, world: &World) {
+    pub fn after(&mut self, about_to: Option<AboutTo>, request: Request, answer: &Answer, world: &World) {
         self.requests += 1;
         let refusal = match answer {
             Answer::Refused(refusal) | Answer::TurnedOver(_, Some(refusal)) => refusal.number,
             _ => 0,
         };
         *self.refusals.entry((entry_name(request), refusal)).or_default() += 1;
-        let Request::Entry(Call::Turn { session, k }) = request else { return };
+        let Request::Entry(Call::Turn { session, .. }) = request else { return };
         let Answer::Done(done @ 1..) = *answer else { return };
         self.steps_done += done;
         let record = usize::try_from(session).ok().and_then(|at| world.bench.records.get(at));
-        let end = record.map_or(GONE_ON, |record| came_to(record.session.kind));
-        match about_to {
-            Some(first) if k == 1 => *self.steps.entry((first, end)).or_default() += 1,
-            _ => *self.run_ends.entry(end).or_default() += 1,
+        let Some(record) = record else { return };
+        let segment = world.segment_bytes(record.slot).and_then(|bytes| Segment::judge(bytes).ok());
+        match (about_to, segment) {
+            (Some(met), Some(segment)) => {
+                *self.steps.entry(met.outcome(&segment, &record.session)).or_default() += 1;
+                self.in_unlinked += usize::from(met.in_unlinked);
+            }
+            _ => *self.run_ends.entry(came_to(record.session.kind)).or_default() += 1,
         }
     }
 
@@ -91,6 +148,9 @@ impl Coverage {
             few.map(|outcome| format!("step {} seen {} times", show(*outcome), self.seen(*outcome))).collect();
         for outcome in self.steps.keys().filter(|outcome| !possible.contains(outcome)) {
             missing.push(format!("step {} seen, but not possible", show(*outcome)));
+        }
+        if self.in_unlinked < wanted {
+            missing.push(format!("steps in an unlinked routine seen {} times", self.in_unlinked));
         }
         missing
     }
@@ -147,11 +207,7 @@ impl Coverage {
             };
             text += &format!("  {name:10}");
             for ((_, end), count) in self.steps.iter().filter(|((byte, _), _)| *byte == first) {
-                text += &match *end {
-                    GONE_ON => format!("  ok:{count}"),
-                    FINISHED => format!("  finished:{count}"),
-                    fault => format!("  {fault}:{count}"),
-                };
+                text += &format!("  {}:{count}", end_name(*end));
             }
             text.push('\n');
         }
@@ -163,18 +219,29 @@ impl Coverage {
         for ((kind, sound), count) in &self.damages {
             text += &format!("  {kind:30} {sound:5}: {count}\n");
         }
+        text += &format!("steps in an unlinked routine: {}\n", self.in_unlinked);
         text + &format!("longer turns, by end (0 steps used up, 11 finished): {:?}\n", self.run_ends)
     }
 }
 
+/// What a step came to, in words.
+fn end_name(end: u32) -> String {
+    match end {
+        GONE_ON => "ok".to_string(),
+        FINISHED => "finished".to_string(),
+        UNLINKED => "8 unlinked".to_string(),
+        UNLINKED_WHEN_FULL => "8 unlinked and full".to_string(),
+        LINK_BEFORE_UNLINKED => "9 before unlinked".to_string(),
+        BACK_TO_UNLINKED => "ok back to unlinked".to_string(),
+        fault => format!("{fault}"),
+    }
+}
+
 fn show((first, end): Outcome) -> String {
+    let carried = first.is_some_and(can_go_well);
     let first = first.map_or("end".to_string(), |byte| byte.to_string());
     match end {
-        GONE_ON if first.parse().is_ok_and(|byte| !can_go_well(byte)) => {
-            format!("({first}, gone on, though not carried)")
-        }
-        GONE_ON => format!("({first}, gone on)"),
-        FINISHED => format!("({first}, finished)"),
-        fault => format!("({first}, fault {fault})"),
+        GONE_ON if !carried => format!("({first}, ok, though not carried)"),
+        end => format!("({first}, {})", end_name(end)),
     }
 }

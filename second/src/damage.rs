@@ -12,12 +12,13 @@ use crate::world::World;
 const WIDE: u64 = 1 << 32;
 
 /// The damages, in the order of 01's sentence.
-pub const DAMAGES: [&str; 35] = [
+pub const DAMAGES: [&str; 41] = [
     "S just at a limit", "S beyond 32,768", "S beyond N", "N beyond 1,048,576",
     "N not the memory's words", "memory one word short", "memory one word long",
     "slot range to the store's end", "slot range beyond the store", "slot start far beyond",
-    "slot length odd", "segment in a slot spoilt", "region below S", "region at N",
-    "region beyond N", "region far beyond", "regions touch", "regions overlap",
+    "slot length odd", "segment in a slot spoilt", "a routine unlinked", "all but routine 1 unlinked",
+    "routine 1 unlinked", "an entry beside zero", "a bad entry after a zero", "session in an unlinked routine",
+    "region below S", "region at N", "region beyond N", "region far beyond", "regions touch", "regions overlap",
     "slot named is 16 or more", "slot named not loaded", "L below 16", "L at 32,768",
     "L above 32,768", "L below 6+G", "SP at a limit", "SP outside", "M at a limit", "M outside",
     "counter at a limit", "counter outside", "routine at a limit", "routine outside",
@@ -37,6 +38,9 @@ struct Target {
     count: u64,
     floor: u64,
     entry: i64,
+    /// Routines from 2 on whose dictionary word has no other use.
+    later: Vec<i64>,
+    dictionary: i64,
     sex: Sex,
     others: Vec<Record>,
 }
@@ -48,6 +52,7 @@ pub fn damage(rng: &mut Rng, world: &mut World, kind: &str) -> Option<bool> {
     let target = target(rng, world)?;
     damage_sizes(rng, world, kind, &target)
         .or_else(|| damage_slots(rng, world, kind, &target))
+        .or_else(|| damage_entries(rng, world, kind, &target))
         .or_else(|| damage_region(rng, world, kind, &target))
         .or_else(|| damage_length(rng, world, kind, &target))
         .or_else(|| damage_session(rng, world, kind, &target))
@@ -69,9 +74,20 @@ fn target(rng: &mut Rng, world: &World) -> Option<Target> {
         count: u64::from(segment.count()),
         floor: 6 + u64::from(segment.global_size()),
         entry: i64::from(segment.routine(1)?.entry),
+        later: later_routines(&segment),
+        dictionary: i64::from(segment.dictionary),
         sex: segment.sex,
         others: others.collect(),
     })
+}
+
+/// The routines from 2 on whose dictionary word is no other routine's DATASIZE
+/// or EXITIC, so that a change of it changes one entry and nothing else.
+fn later_routines(segment: &Segment) -> Vec<i64> {
+    let others: Vec<u32> =
+        segment.routines.iter().flat_map(|r| [r.entry, r.entry.saturating_sub(1)]).collect();
+    let later = (2..=segment.count()).filter(|number| !others.contains(&(segment.dictionary + number)));
+    later.map(i64::from).collect()
 }
 
 /// S, N and the memory.
@@ -148,6 +164,54 @@ fn damage_slots(rng: &mut Rng, world: &mut World, kind: &str, target: &Target) -
         _ => return None,
     }
     Some(false)
+}
+
+/// A copy of the segment that the session names, in a slot that none names.
+fn copy_in_another_slot(world: &mut World, target: &Target) -> Option<Slot> {
+    let copy = world.segment_bytes(target.record.slot)?.to_vec();
+    let slot = world.bench.slots.iter_mut().find(|slot| !slot.loaded)?;
+    *slot = Slot { loaded: true, start: world.store.len() as u64, length: target.slot.length };
+    world.store.extend(copy);
+    Some(*slot)
+}
+
+/// Entries of the segment that the session names, or of a copy: "An entry of
+/// zero is lawful for every routine but routine 1", in soundness too.
+fn damage_entries(rng: &mut Rng, world: &mut World, kind: &str, target: &Target) -> Option<bool> {
+    let its_own = kind == "session in an unlinked routine" || rng.chance(1, 2);
+    let slot = if its_own { target.slot } else { copy_in_another_slot(world, target)? };
+    let bytes = world.store.get_mut(slot.start as usize..(slot.start + slot.length) as usize)?;
+    let mut put = |number: i64, entry: i64| {
+        put_word(bytes, target.sex, target.dictionary + number, entry);
+    };
+    let number = rng.pick(&target.later, *target.later.first()?);
+    let bad = rng.pick(&[1, 11, target.words as i64 - 1, 65_535], 1);
+    match kind {
+        "a routine unlinked" => put(number, 0),
+        "all but routine 1 unlinked" if target.later.len() as u64 + 1 == target.count => {
+            target.later.iter().for_each(|number| put(*number, 0));
+        }
+        "session in an unlinked routine" => {
+            put(number, 0);
+            world.bench.records.get_mut(target.number)?.session.routine = number as u64;
+        }
+        "routine 1 unlinked" => {
+            put(1, 0);
+            return Some(false);
+        }
+        "an entry beside zero" => {
+            put(number, bad);
+            return Some(false);
+        }
+        "a bad entry after a zero" => {
+            let [first, .., last] = target.later.as_slice() else { return None };
+            put(*first, 0);
+            put(*last, bad);
+            return Some(false);
+        }
+        _ => return None,
+    }
+    Some(true)
 }
 
 /// Where the session's region lies.

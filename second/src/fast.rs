@@ -256,9 +256,11 @@ pub fn run(
                     fault!(8)
                 }
                 let entry = segment_word(segment, segment.dictionary + number);
-                let needed = 5 + segment_word(segment, entry);
+                // An unlinked routine needs more words than any region has, so
+                // that one branch serves 8 and 4: a second one was measured slower.
+                let needed = 5 + segment_word(segment, entry) + (usize::from(entry == 0) << 20);
                 if sp < floor + needed {
-                    fault!(4)
+                    fault!(if entry == 0 { 8 } else { 4 })
                 }
                 sp -= needed;
                 region[sp] = $parent as u16;

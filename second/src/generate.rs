@@ -8,6 +8,7 @@ use crate::bench::{self, Bench, Record, Slot};
 use crate::damage::{damage, DAMAGES, LARGE};
 use crate::machine::{self, Form, Kind, Op, Session};
 use crate::segment::{Segment, Sex};
+use crate::unlinked::{self, Entries};
 use crate::world::{ask, blank_bench, Call, World};
 
 // ---------------------------------------------------------------- randomness
@@ -118,14 +119,22 @@ pub struct Wish {
     /// Fill the code with instructions (else with bytes of no meaning, mostly
     /// all alike).
     pub program: bool,
+    /// How often of 12 some routines are unlinked.
+    pub unlinked: u64,
 }
 
-pub const ORDINARY: Wish =
-    Wish { least_words: 16, most_words: 60, most_routines: 5, most_data: 9, program: true };
+pub const ORDINARY: Wish = Wish {
+    least_words: 16,
+    most_words: 60,
+    most_routines: 5,
+    most_data: 9,
+    program: true,
+    unlinked: 5,
+};
 
 /// Room for statements, so that sessions do something.
 pub const LIVELY: Wish =
-    Wish { least_words: 34, most_words: 90, most_routines: 3, most_data: 9, program: true };
+    Wish { least_words: 34, most_words: 90, most_routines: 3, unlinked: 3, ..ORDINARY };
 
 /// A segment drafted to pass checks 1 to 8; it may miss.
 fn draft(rng: &mut Rng, wish: Wish) -> Vec<u8> {
@@ -142,28 +151,11 @@ fn draft(rng: &mut Rng, wish: Wish) -> Vec<u8> {
     let dictionary = rng.pick_in(&[11, 11, last_start], 11, last_start);
     let pool = if rng.chance(1, 2) { 0 } else { rng.pick_in(&[11, words - 1], 11, words - 1) };
     let mut used: Vec<i64> = (dictionary..=dictionary + count).collect();
-    let mut entries = Vec::new();
-    for _ in 0..count {
-        let careless = rng.chance(1, 12);
-        let mut entry = rng.between(12, words - 2);
-        for _ in 0..60 {
-            if careless || !(used.contains(&entry) || used.contains(&(entry - 1))) {
-                break;
-            }
-            entry = rng.between(12, words - 2);
-        }
-        used.extend([entry - 1, entry]);
-        entries.push(entry);
-    }
-
-    // Routine 1's DATASIZE is G; it is kept small, so that sessions open.
-    let data_sizes: Vec<i64> = (1..=count)
-        .map(|number| match rng.up_to(19) {
-            0 if number > 1 => 32_767,
-            1 if number > 1 => rng.between(0, 32_767),
-            _ => rng.between(0, wish.most_data),
-        })
+    let entries: Vec<i64> = unlinked::chosen(rng, wish.unlinked, count)
+        .into_iter()
+        .map(|unlinked| if unlinked { 0 } else { draft_entry(rng, words, &mut used) })
         .collect();
+    let data_sizes = draft_data_sizes(rng, wish, count);
     if wish.program {
         fill_with_program(rng, &mut bytes, &used, &entries, &data_sizes, pool != 0);
     }
@@ -173,7 +165,7 @@ fn draft(rng: &mut Rng, wish: Wish) -> Vec<u8> {
     put_word(&mut bytes, sex, 0, dictionary);
     put_word(&mut bytes, sex, 1, 0);
     put_word(&mut bytes, sex, 7, pool);
-    for (entry, data_size) in entries.iter().zip(&data_sizes) {
+    for (entry, data_size) in entries.iter().zip(&data_sizes).filter(|(entry, _)| **entry != 0) {
         let exit_ic = rng.pick_in(&[22, 2 * words - 1], 22, 2 * words - 1);
         put_word(&mut bytes, sex, *entry, *data_size);
         put_word(&mut bytes, sex, *entry - 1, exit_ic);
@@ -183,6 +175,31 @@ fn draft(rng: &mut Rng, wish: Wish) -> Vec<u8> {
         put_word(&mut bytes, sex, dictionary + number, *entry);
     }
     bytes
+}
+
+/// An entry whose words nothing else uses, if one is found, but for a few.
+fn draft_entry(rng: &mut Rng, words: i64, used: &mut Vec<i64>) -> i64 {
+    let careless = rng.chance(1, 12);
+    let mut entry = rng.between(12, words - 2);
+    for _ in 0..60 {
+        if careless || !(used.contains(&entry) || used.contains(&(entry - 1))) {
+            break;
+        }
+        entry = rng.between(12, words - 2);
+    }
+    used.extend([entry - 1, entry]);
+    entry
+}
+
+/// Routine 1's DATASIZE is G; it is kept small, so that sessions open.
+fn draft_data_sizes(rng: &mut Rng, wish: Wish, count: i64) -> Vec<i64> {
+    (1..=count)
+        .map(|number| match rng.up_to(19) {
+            0 if number > 1 => 32_767,
+            1 if number > 1 => rng.between(0, 32_767),
+            _ => rng.between(0, wish.most_data),
+        })
+        .collect()
 }
 
 /// Each run of bytes that no word position uses gets code: either statements
@@ -205,7 +222,7 @@ fn fill_with_program(
         let routine = entries.iter().position(|entry| 2 * (entry + 1) == at as i64);
         let number = routine.map_or(count, |index| index as i64 + 1);
         let locals = routine.and_then(|index| data_sizes.get(index)).copied().unwrap_or(0);
-        let writer = Writer { number, count, globals, locals, pool };
+        let writer = Writer { number, entries, globals, locals, pool };
         let code = if steady {
             writer.routine(rng, run)
         } else {
@@ -223,15 +240,15 @@ fn fill_with_program(
 }
 
 /// Writes statements for one routine.
-struct Writer {
+struct Writer<'a> {
     number: i64,
-    count: i64,
+    entries: &'a [i64],
     globals: i64,
     locals: i64,
     pool: bool,
 }
 
-impl Writer {
+impl Writer<'_> {
     /// Statements as long as they fit; then a jump back to the first (routine
     /// 1) or a return that drops the locals.
     fn routine(&self, rng: &mut Rng, room: usize) -> Vec<u8> {
@@ -277,19 +294,7 @@ impl Writer {
                 }
                 code.extend(inner);
             }
-            4 | 5 => {
-                // a call of a higher routine, so that calls end
-                if self.number < self.count {
-                    let called = rng.between(self.number + 1, self.count) as u8;
-                    match rng.up_to(3) {
-                        0 => code.extend([144, called]),
-                        1 => code.extend([145, called]),
-                        2 => code.extend([146, 0, called]),
-                        _ if self.number > 1 => code.extend([239, called]),
-                        _ => code.push(156),
-                    }
-                }
-            }
+            4 | 5 => code.extend(self.call(rng)),
             6 => {
                 // store through an address
                 let global = self.global(rng);
@@ -311,6 +316,28 @@ impl Writer {
                 code.extend(self.store(rng));
                 code.extend(self.store(rng));
             }
+            _ => code.push(156),
+        }
+        code
+    }
+
+    /// A call of a higher routine, so that calls end; seldom of an unlinked
+    /// one, so that runs last.
+    fn call(&self, rng: &mut Rng) -> Vec<u8> {
+        let mut code = Vec::new();
+        let count = self.entries.len() as i64;
+        if self.number >= count {
+            return code;
+        }
+        let called = rng.between(self.number + 1, count);
+        let unlinked = self.entries.get(called as usize - 1) == Some(&0);
+        let called = called as u8;
+        match rng.up_to(3) {
+            _ if unlinked && !rng.chance(1, 6) => code.push(156),
+            0 => code.extend([144, called]),
+            1 => code.extend([145, called]),
+            2 => code.extend([146, 0, called]),
+            _ if self.number > 1 => code.extend([239, called]),
             _ => code.push(156),
         }
         code
@@ -496,23 +523,11 @@ pub fn nearly_valid_segment(rng: &mut Rng) -> Vec<u8> {
 /// One number of a valid segment put at or beside a limit of checks 1 to 8.
 pub fn beside_a_limit(rng: &mut Rng, mut bytes: Vec<u8>) -> Vec<u8> {
     let Ok(segment) = Segment::judge(&bytes) else { return bytes };
-    let (sex, words, count) = (segment.sex, i64::from(segment.words), i64::from(segment.count()));
+    let (sex, words) = (segment.sex, i64::from(segment.words));
     let dictionary = i64::from(segment.dictionary);
     let entries: Vec<i64> = segment.routines.iter().map(|r| i64::from(r.entry)).collect();
-    let number = rng.between(1, count);
-    let entry = entries.get(number as usize - 1).copied().unwrap_or(12);
-    match rng.up_to(9) {
-        0 => {
-            // length
-            match rng.up_to(5) {
-                0 => drop(bytes.pop()),
-                1 => bytes.push(0),
-                2 => bytes.truncate(30),
-                3 => bytes.truncate(31),
-                4 => bytes.truncate(rng.up_to(40) as usize),
-                _ => bytes.truncate(bytes.len().saturating_sub(2)),
-            }
-        }
+    match rng.up_to(11) {
+        0 => length_beside_a_limit(rng, &mut bytes),
         1 => {
             let flag = rng.pick(&[[0, 0], [1, 1], [2, 0], [0, 2], [1, 0], [0, 1]], [255, 0]);
             if let Some(place) = bytes.get_mut(12..14) {
@@ -533,31 +548,57 @@ pub fn beside_a_limit(rng: &mut Rng, mut bytes: Vec<u8>) -> Vec<u8> {
             let n = rng.pick(&[0, 1, room, room + 1, 255, 256, 257, 65_535], 0);
             put_word(&mut bytes, sex, dictionary, n);
         }
-        6 => {
-            let at = rng.pick(&[0, 1, 11, 12, words - 3, words - 2, words - 1, words, 65_535], 0);
-            put_word(&mut bytes, sex, dictionary + number, at);
+        _ => {
+            let entries = Entries { sex, words, dictionary, entries: &entries };
+            routine_beside_a_limit(rng, &mut bytes, &entries);
         }
-        7 => {
+    }
+    bytes
+}
+
+fn length_beside_a_limit(rng: &mut Rng, bytes: &mut Vec<u8>) {
+    match rng.up_to(5) {
+        0 => drop(bytes.pop()),
+        1 => bytes.push(0),
+        2 => bytes.truncate(30),
+        3 => bytes.truncate(31),
+        4 => bytes.truncate(rng.up_to(40) as usize),
+        _ => bytes.truncate(bytes.len().saturating_sub(2)),
+    }
+}
+
+/// The entry, DATASIZE or EXITIC of one routine, or of two.
+fn routine_beside_a_limit(rng: &mut Rng, bytes: &mut [u8], of: &Entries) {
+    // an unlinked one has neither DATASIZE nor EXITIC
+    let linked: Vec<i64> = of.entries.iter().copied().filter(|entry| *entry != 0).collect();
+    let entry = rng.pick(&linked, 12);
+    let number = of.some_number(rng);
+    match rng.up_to(6) {
+        0 | 1 => {
+            let at = of.some_entry(rng);
+            of.put(bytes, number, at);
+        }
+        2 => {
             let data = rng.pick(&[0, 32_767, 32_768, 32_769, 65_535], 32_768);
-            put_word(&mut bytes, sex, entry, data);
+            put_word(bytes, of.sex, entry, data);
         }
-        8 => {
-            let at = rng.pick(&[0, 21, 22, 2 * words - 1, 2 * words, 65_535], 0);
-            put_word(&mut bytes, sex, entry - 1, at);
+        3 => {
+            let limits = [0, 21, 22, 2 * of.words - 1, 2 * of.words, 65_535];
+            put_word(bytes, of.sex, entry - 1, rng.pick(&limits, 0));
         }
+        4 | 5 => of.zero_before(rng, bytes),
         _ => {
             // two routines damaged: the lower number is told
-            for number in [number, rng.between(1, count)] {
-                let entry = entries.get(number as usize - 1).copied().unwrap_or(12);
+            for number in [number, of.some_number(rng)] {
+                let entry = rng.pick(&linked, 12);
                 match rng.up_to(2) {
-                    0 => put_word(&mut bytes, sex, dictionary + number, 11),
-                    1 => put_word(&mut bytes, sex, entry, 40_000),
-                    _ => put_word(&mut bytes, sex, entry - 1, 21),
+                    0 => of.put(bytes, number, 11),
+                    1 => put_word(bytes, of.sex, entry, 40_000),
+                    _ => put_word(bytes, of.sex, entry - 1, 21),
                 }
             }
         }
     }
-    bytes
 }
 
 /// A segment with random damage.
@@ -734,7 +775,10 @@ fn shared_words(rng: &mut Rng, count: i64) -> Vec<u16> {
 
 /// A sound session of a segment without a program: a place for single steps.
 pub fn session_case(rng: &mut Rng) -> RunCase {
-    let bytes = valid_segment(rng, Wish { program: false, ..ORDINARY });
+    let bytes = match rng.up_to(39) {
+        0 => unlinked::crowd(rng),
+        _ => valid_segment(rng, Wish { program: false, unlinked: 8, ..ORDINARY }),
+    };
     let count = if rng.chance(1, 100) { 32_768 } else { rng.pick(&[0, 1, 2, 7, 40], 0) };
     let shared = shared_words(rng, count);
     let (region, session) = match Segment::judge(&bytes) {
@@ -829,6 +873,8 @@ pub fn telling_operands(
         }
         Op::CallLocal | Op::CallGlobal | Op::CallIntermediate => {
             limits.extend([0, 1, 1, 2, count, count, count + 1, 255]);
+            let numbered = (1..).zip(&view.segment.routines);
+            limits.extend(numbered.filter(|(_, r)| !r.is_linked()).map(|(number, _)| number).take(6));
         }
         Op::Jump | Op::FalseJump | Op::TrueJump => {
             limits.extend(around(22 - next));
@@ -911,6 +957,13 @@ pub fn can_go_well(first: u8) -> bool {
 /// What one step came to: a fault number, 0 for gone on, 11 for finished.
 pub const GONE_ON: u32 = 0;
 pub const FINISHED: u32 = 11;
+// Told apart from the faults 8 and 9 and from gone on, since unlinked routines
+// give them too: 8 for a call of one, 8 where the stack is full besides, 9
+// where the static link is bad besides, and a return that goes on in one.
+pub const UNLINKED: u32 = 12;
+pub const UNLINKED_WHEN_FULL: u32 = 13;
+pub const LINK_BEFORE_UNLINKED: u32 = 14;
+pub const BACK_TO_UNLINKED: u32 = 15;
 
 /// The first byte (`None` beyond the end) and what the step came to.
 pub type Outcome = (Option<u8>, u32);
@@ -923,9 +976,16 @@ pub fn possible_outcomes() -> Vec<Outcome> {
             possible.push((Some(first), GONE_ON));
         }
         if first == 150 {
-            possible.push((Some(first), FINISHED));
+            possible.extend([(Some(first), FINISHED), (Some(first), BACK_TO_UNLINKED)]);
         }
-        possible.extend(possible_faults(first).iter().map(|fault| (Some(first), *fault)));
+        let faults = possible_faults(first);
+        possible.extend(faults.iter().map(|fault| (Some(first), *fault)));
+        if faults.contains(&8) {
+            possible.extend([(Some(first), UNLINKED), (Some(first), UNLINKED_WHEN_FULL)]);
+        }
+        if faults.contains(&8) && faults.contains(&9) {
+            possible.push((Some(first), LINK_BEFORE_UNLINKED));
+        }
     }
     possible
 }

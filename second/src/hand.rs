@@ -9,6 +9,7 @@ mod instructions;
 mod marked;
 mod segments;
 mod soundness;
+mod unlinked;
 
 use crate::bench::{Record, Slot};
 use crate::machine::{self, Fault, Kind, Session};
@@ -39,6 +40,7 @@ pub fn table() -> Vec<Hand> {
     instructions::fill(&mut table);
     benches::fill(&mut table);
     soundness::fill(&mut table);
+    unlinked::fill(&mut table);
     table.cases
 }
 
@@ -280,6 +282,11 @@ impl<'a> Rig<'a> {
 
     fn with_counter(mut self, counter: u64) -> Self {
         self.session().counter = counter;
+        self
+    }
+
+    fn with_routine(mut self, number: u64) -> Self {
+        self.session().routine = number;
         self
     }
 

@@ -1,6 +1,7 @@
 //! A second interpreter of the bench of document 01, written from the papers
-//! alone: 01 (docs/01-scope.md, which decides), 000 (the manual of 1983) and
-//! open-questions.md.  Quoted lines without a name are sentences of 01.
+//! alone: 01 (docs/01-scope.md, which decides), 000 (the manual of 1983), 02
+//! (the customer's requests, as far as they are landed) and open-questions.md.
+//! Quoted lines without a name are sentences of 01.
 //! Places where the papers are silent are listed in READINGS.md.
 
 #![forbid(unsafe_code)]
@@ -19,4 +20,5 @@ pub mod reader;
 pub mod segment;
 pub mod set;
 pub mod steps;
+pub mod unlinked;
 pub mod world;

@@ -3,7 +3,7 @@
 //! changes nothing) and then put in force, so that a fault leaves all as it
 //! was: "Only the session's kind changes."
 
-use crate::segment::{Reader, Segment};
+use crate::segment::{Reader, Routine, Segment};
 
 /// "The three kinds of session are ready, finished and faulted (with fault
 /// number and place)."
@@ -42,7 +42,8 @@ pub const ZERO_DIVISOR: Fault = 5;
 pub const BAD_ADDRESS: Fault = 6;
 /// "7 jump target outside 22..2W-1"
 pub const BAD_TARGET: Fault = 7;
-/// "8 routine number outside 1..n"
+/// "8 routine number outside 1..n"; request 1 of 02, of an unlinked routine:
+/// "Calling it gives fault 8."
 pub const BAD_ROUTINE: Fault = 8;
 /// "9 bad static link or mark"
 pub const BAD_LINK_OR_MARK: Fault = 9;
@@ -441,7 +442,8 @@ impl View<'_> {
     /// to M+4".
     fn call(&self, decoded: &Decoded, parent: u64) -> Result<Transition, Fault> {
         let number = u64::try_from(decoded.value).map_err(|_| BAD_ROUTINE)?;
-        let routine = self.segment.routine(number).ok_or(BAD_ROUTINE)?;
+        let routine =
+            self.segment.routine(number).filter(Routine::is_linked).ok_or(BAD_ROUTINE)?;
         let sp = reckon(self.session.sp) - 5 - i64::from(routine.data_size);
         let mark = [parent, self.session.m, decoded.next, 1, self.session.routine];
         let mut writes = Vec::new();

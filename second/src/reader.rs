@@ -29,9 +29,7 @@ impl Reader {
             self.bytes(rest.trim_start());
             return None;
         }
-        let numbers: Option<Vec<u64>> =
-            rest.split_ascii_whitespace().map(|digits| u64::from_str_radix(digits, 16).ok()).collect();
-        let numbers = numbers?;
+        let numbers = numbers(rest)?;
         if let Some(asked) = asked(letter, &numbers) {
             let answer = request(&mut self.world, asked);
             return Some(answer_line(asked, &answer, &self.world));
@@ -92,7 +90,17 @@ impl Reader {
     }
 }
 
+/// Numbers in hexadecimal.
+fn numbers(digits: &str) -> Option<Vec<u64>> {
+    digits.split_ascii_whitespace().map(|digits| u64::from_str_radix(digits, 16).ok()).collect()
+}
+
 /// The request of a line, if it is one.
+pub fn request_of(line: &str) -> Option<Request> {
+    let (letter, rest) = line.split_at_checked(1)?;
+    asked(letter, &numbers(rest)?)
+}
+
 fn asked(letter: &str, numbers: &[u64]) -> Option<Request> {
     Some(match (letter, numbers) {
         ("J", []) => Request::Judge,

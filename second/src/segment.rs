@@ -33,6 +33,18 @@ pub struct Routine {
     pub start: u32,
 }
 
+impl Routine {
+    /// Request 1 of 02: "declared but unlinked external routines [...] such an
+    /// entry is zero".  Request 14: "A zero entry counts as start, DATASIZE and
+    /// EXITIC 0."
+    pub const UNLINKED: Routine = Routine { entry: 0, data_size: 0, exit_ic: 0, start: 0 };
+
+    /// Whether there is code to call.
+    pub fn is_linked(&self) -> bool {
+        self.entry != 0
+    }
+}
+
 /// A segment that passed checks 1 to 8, with the numbers read from it.
 #[derive(Clone, Debug, PartialEq, Eq)]
 pub struct Segment<'a> {
@@ -129,11 +141,12 @@ impl<'a> Segment<'a> {
     }
 
     /// "Word positions are 0, 1, 6 to 10, D to D+n, and e-1 and e of every
-    /// routine."  A set, so that a position named by two rules is there once.
+    /// routine."  Request 1 of an unlinked one: "it has no word positions".  A
+    /// set, so that a position named by two rules is there once.
     pub fn word_positions(&self) -> BTreeSet<u32> {
         let mut positions = BTreeSet::from([0, 1, 6, 7, 8, 9, 10]);
         positions.extend(self.dictionary..=self.dictionary + self.count());
-        for routine in &self.routines {
+        for routine in self.routines.iter().filter(|routine| routine.is_linked()) {
             positions.insert(routine.entry - 1);
             positions.insert(routine.entry);
         }
@@ -176,8 +189,11 @@ fn check_5_dictionary(
     Ok(count)
 }
 
-/// 6 "an entry outside 12..W-2, zero included", 7 "DATASIZE 32,768 or more",
-/// 8 "EXITIC outside 22..2W-1", with the routine number as the place.
+/// 6 "an entry outside 12..W-2", 7 "DATASIZE 32,768 or more", 8 "EXITIC outside
+/// 22..2W-1", with the routine number as the place.  Where 01 goes on "zero
+/// included", request 1 has it otherwise: "An entry of zero is lawful for every
+/// routine but routine 1; it has [...] no checks 6 to 8. [...] Routine 1 at zero
+/// still gets 6."
 fn check_6_to_8_routine(
     bytes: &[u8],
     sex: Sex,
@@ -186,6 +202,9 @@ fn check_6_to_8_routine(
     entry: u32,
 ) -> Result<Routine, Refusal> {
     let refused = |refusal_number| Refusal { number: refusal_number, place: number };
+    if entry == 0 && number != 1 {
+        return Ok(Routine::UNLINKED);
+    }
     if !(12..=words - 2).contains(&entry) {
         return Err(refused(6));
     }

@@ -7,13 +7,15 @@ use crate::cases::Writer;
 use crate::damage::{damage, DAMAGES, LARGE};
 use crate::generate::{
     self, beside_a_limit, call, loading_case, possible_outcomes, run_case, sequence_case,
-    sound_bench, valid_segment, with_damage, Outcome, Rng, SequenceCase, FINISHED, GONE_ON, ORDINARY,
-    SMALL,
+    sound_bench, valid_segment, with_damage, Outcome, Rng, SequenceCase, BACK_TO_UNLINKED, FINISHED,
+    GONE_ON, LINK_BEFORE_UNLINKED, ORDINARY, SMALL, UNLINKED, UNLINKED_WHEN_FULL,
 };
 use crate::hand::table;
 use crate::machine::Kind;
 use crate::products;
+use crate::segment::turn_over;
 use crate::steps::{base, draw, placed, Place};
+use crate::unlinked;
 use crate::world::{Call, Request, World};
 use std::io::{self, Write};
 
@@ -28,6 +30,9 @@ fn drawn(outcome: Outcome) -> usize {
         (Some(150), 9) => 100,
         // products worked by hand count too; as many are to be drawn beside them
         (Some(140), GONE_ON) => 100,
+        // calls of unlinked routines worked by hand count too
+        (_, UNLINKED) => 3 * WANTED,
+        (_, UNLINKED_WHEN_FULL | LINK_BEFORE_UNLINKED | BACK_TO_UNLINKED) => 2 * WANTED,
         (Some(128..), GONE_ON | FINISHED | 6 | 7 | 9 | 10) => 2 * WANTED,
         _ => WANTED + 4,
     }
@@ -57,6 +62,14 @@ impl<'a, Q: Write, A: Write> Set<'a, Q, A> {
         for _ in 0..12 {
             self.large_segment()?;
         }
+        self.writer.remark("255 routines, many of them unlinked")?;
+        for _ in 0..10 {
+            self.crowd(10)?;
+        }
+        self.writer.remark("benches that load, open and run segments with unlinked routines")?;
+        for _ in 0..40 {
+            self.unlinked_bench()?;
+        }
         self.writer.remark("benches sound, and damaged in one field")?;
         self.every_damage(6)?;
         self.writer.remark("runs")?;
@@ -82,7 +95,9 @@ impl<'a, Q: Write, A: Write> Set<'a, Q, A> {
         while !self.full() {
             match self.rng.up_to(99) {
                 0..=11 => self.some_steps(SERIES)?,
-                12..=27 => self.segments(10)?,
+                12..=24 => self.segments(10)?,
+                25 => self.crowd(10)?,
+                26 | 27 => self.unlinked_bench()?,
                 28 => self.large_segment()?,
                 29..=43 => self.some_damages(8)?,
                 44..=63 => self.run()?,
@@ -156,9 +171,12 @@ impl<'a, Q: Write, A: Write> Set<'a, Q, A> {
     fn some_steps(&mut self, many: usize) -> io::Result<()> {
         let place = base(&mut self.rng);
         let possible = possible_outcomes();
+        let of_unlinked: Vec<Outcome> =
+            possible.iter().copied().filter(|(_, end)| *end >= UNLINKED).collect();
         let mut used = 0;
         while used < many && !self.full() {
-            let hoped = self.rng.pick(&possible, (None, 1));
+            let hoped_for = if self.rng.chance(1, 12) { &of_unlinked } else { &possible };
+            let hoped = self.rng.pick(hoped_for, (None, 1));
             let mut chosen = None;
             for _ in 0..12 {
                 let now = if used == 0 { &place.world } else { self.writer.world() };
@@ -203,10 +221,26 @@ impl<'a, Q: Write, A: Write> Set<'a, Q, A> {
     /// A valid segment, and others made of it.
     fn segments(&mut self, many: usize) -> io::Result<()> {
         let program = self.rng.chance(1, 3);
-        let good = valid_segment(&mut self.rng, generate::Wish { program, ..ORDINARY });
-        for index in 0..many {
+        let unlinked = self.rng.pick(&[5, 12], 5);
+        let good = valid_segment(&mut self.rng, generate::Wish { program, unlinked, ..ORDINARY });
+        self.segments_of(good, many)
+    }
+
+    /// Segments of 255 routines, many of them unlinked.
+    fn crowd(&mut self, many: usize) -> io::Result<()> {
+        let good = unlinked::crowd(&mut self.rng);
+        self.segments_of(good, many)
+    }
+
+    /// A segment, its turned twin, and others beside it.
+    fn segments_of(&mut self, good: Vec<u8>, many: usize) -> io::Result<()> {
+        self.segment(good.clone())?;
+        let mut twin = vec![0; good.len()];
+        if turn_over(&good, &mut twin).is_ok() {
+            self.segment(twin)?;
+        }
+        for _ in 1..many {
             let bytes = match self.rng.up_to(9) {
-                _ if index == 0 => good.clone(),
                 0..=6 => beside_a_limit(&mut self.rng, good.clone()),
                 7 | 8 => with_damage(&mut self.rng, good.clone()),
                 _ => (0..self.rng.up_to(50)).map(|_| self.rng.next() as u8).collect(),
@@ -244,8 +278,12 @@ impl<'a, Q: Write, A: Write> Set<'a, Q, A> {
         generate::put_word(&mut bytes, sex, 7, self.rng.pick(&[0, 0, words - 1, words], 0));
         generate::put_word(&mut bytes, sex, entry, self.rng.pick(&[0, 32_767], 0));
         generate::put_word(&mut bytes, sex, entry - 1, exit_ic);
-        generate::put_word(&mut bytes, sex, dictionary, 1);
+        // sometimes a second routine, unlinked
+        generate::put_word(&mut bytes, sex, dictionary, self.rng.pick(&[1, 1, 2], 1));
         generate::put_word(&mut bytes, sex, dictionary + 1, entry);
+        if dictionary > 11 {
+            generate::put_word(&mut bytes, sex, dictionary + 2, 0);
+        }
         self.segment(bytes)
     }
 
@@ -348,6 +386,22 @@ impl<'a, Q: Write, A: Write> Set<'a, Q, A> {
     fn loading(&mut self) -> io::Result<()> {
         let case = loading_case(&mut self.rng);
         self.calls(case)
+    }
+
+    /// A segment with unlinked routines loaded, opened, run and closed.
+    fn unlinked_bench(&mut self) -> io::Result<()> {
+        if self.full() {
+            return Ok(());
+        }
+        let (start, calls) = unlinked::bench_case(&mut self.rng);
+        self.writer.case(start)?;
+        for call in calls {
+            self.ask(Request::Entry(call))?;
+            if self.rng.chance(1, 4) {
+                self.ask(Request::Sound)?;
+            }
+        }
+        Ok(())
     }
 
     fn calls(&mut self, case: SequenceCase) -> io::Result<()> {

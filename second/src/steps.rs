@@ -3,7 +3,7 @@
 //! byte near a limit of its own.
 
 use crate::bench::{Record, Slot};
-use crate::coverage::came_to;
+use crate::coverage::AboutTo;
 use crate::generate::{
     operand_size, registers, session_case, telling_factor, telling_integer, telling_mark,
     telling_operands, telling_word, Outcome, Rng, RunCase, View,
@@ -105,8 +105,9 @@ pub fn outcome(world: &World, number: usize) -> Option<Outcome> {
     let shared = world.memory.get(..world.bench.shared as usize)?;
     let mut region = world.region(number)?.to_vec();
     let mut session = record.session;
+    let met = AboutTo::meet(&segment, &session);
     machine::step(&segment, shared, &mut region, &mut session);
-    Some((bytes.get(record.session.counter as usize).copied(), came_to(session.kind)))
+    Some(met.outcome(&segment, &session))
 }
 
 /// The world changed so that its session meets a first byte (or, for `None`,

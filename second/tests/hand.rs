@@ -62,7 +62,7 @@ fn the_table_has_everything_once_at_least() {
             let Some(record) = before.bench.records.get(session as usize) else { continue };
             let end = came_to(record.session.kind);
             faults.insert(end);
-            if let (GONE_ON, Some(Some(first))) = (end, met) {
+            if let (GONE_ON, Some(first)) = (end, met.and_then(|met| met.first)) {
                 names.extend(instruction(first).map(|row| row.name));
             }
         }

@@ -27,6 +27,12 @@ fn names_and_routines() {
     assert_eq!(segment.routine(0), None);
     assert_eq!(segment.routine(4), None);
     assert_eq!(segment.routine(u64::MAX), None);
+    let mut unlinked = bytes.clone();
+    unlinked[26] = 0;
+    let segment = Segment::judge(&unlinked).unwrap();
+    assert_eq!(segment.count(), 3);
+    let linked = [1, 2, 3].map(|number| segment.routine(number).unwrap().is_linked());
+    assert_eq!(linked, [true, false, true]);
 }
 
 #[test]
@@ -39,6 +45,10 @@ fn word_positions() {
         positions(&hand_segment(0)),
         [0, 1, 6, 7, 8, 9, 10, 11, 12, 13, 14, 15, 16, 39, 40, 49, 50]
     );
+    // routine 2 unlinked: 02, request 1, "it has no word positions"
+    let mut unlinked = hand_segment(0);
+    unlinked[26] = 0;
+    assert_eq!(positions(&unlinked), [0, 1, 6, 7, 8, 9, 10, 11, 12, 13, 14, 15, 16, 49, 50]);
 }
 
 #[test]

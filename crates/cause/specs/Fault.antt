@@ -6,7 +6,7 @@ use Rattle.cause.specs.declared.why.Code.the-variants.{Begins, Ends, Unc
 use Rattle.cause.specs.declared.why.Stack.{Stack}
 use Rattle.cause.specs.declared.why.Stack.the-variants.{Few, Zero, Range, Deep, Room}
 use Rattle.cause.specs.declared.why.Flow.{Flow}
-use Rattle.cause.specs.declared.why.Flow.the-variants.{Target, Before, Routine, Link, Dynamic, Caller, Segment, Resume, Back}
+use Rattle.cause.specs.declared.why.Flow.the-variants.{Target, Before, Routine, Unlinked, Link, Dynamic, Caller, Segment, Resume, Back}
 use Rattle.cause.specs.declared.why.Why.{Why}
 use Rattle.cause.specs.declared.why.Why.the-variants.{Holds, Code as of-code, Stack as of-stack, Place as of-place, Address as of-address, Flow as of-flow}
 
@@ -27,6 +27,7 @@ abbrev pub flowFault : Flow → ℕ
 flowFault (Target t) = 7
 flowFault (Before k) = 7
 flowFault (Routine k) = 8
+flowFault (Unlinked k) = 8
 flowFault (Link of left at value) = 9
 flowFault (Dynamic value) = 9
 flowFault (Caller value) = 9

@@ -11,10 +11,14 @@ use crate::why::Why;
 use instruction::Target;
 use plan::Link;
 ghost use mathlib.Core.Path.{_≡_};
+ghost use mathlib.Core.Bool.{cond, _&&_};
 ghost use Prim.Native.Nat.{_<_};
+ghost use lib.Dec.{leb};
 ghost use lib.ListN.{length};
+ghost use Rattle.segment.specs.Head.{linked};
 ghost use Rattle.pmachine.specs.Step.{broken, follow, reached};
 ghost use Rattle.cause.specs.Answer.{linkOf, whoseOf};
+ghost use Rattle.cause.specs.Fault.{faultOf};
 
 // The record that links lead to; or a bad link: of how many, how many were left with it, the word where it stands, what it holds.
 pub enum Reached {
@@ -88,19 +92,27 @@ pub fn record_of(region: &[u16], m: u16, whose: Whose) -> Reached
     }
 }
 
-// 9 and then 8: the parent's record, and the routine's number.
-pub fn call(region: &[u16], n: Numbers, whose: Whose, k: u16) -> Why {
+// 9 and then 8: the parent's record, and the routine.
+pub fn call(seg: &[u8], region: &[u16], n: Numbers, whose: Whose, k: u16) -> Why {
     let parent = record_of(region, n.m, whose);
     match parent {
-        Reached::Record(_) => {
-            if is_outside(k as usize, 1, n.count as usize) {
-                Why::Flow(Flow::Routine(k))
-            } else {
-                Why::Holds
-            }
-        }
+        Reached::Record(_) => callable(seg, n, k),
         Reached::Bad(of, left, at, value) => Why::Flow(Flow::Link(of, left, at, value)),
     }
+}
+
+// 8: the segment has the routine, and it is linked.
+fn callable(seg: &[u8], n: Numbers, k: u16) -> Why
+    ensures { λ r. ⌜ faultOf r ≡ cond ((leb 1 k && leb k (n .count)) && linked (now (seg .entry)) k) 0 8 ⌝ }
+{
+    if is_outside(k as usize, 1, n.count as usize) {
+        return Why::Flow(Flow::Routine(k));
+    }
+    let r = segment::routine_of(seg, k);
+    if r.entry == 0 {
+        return Why::Flow(Flow::Unlinked(k));
+    }
+    Why::Holds
 }
 
 // 9 of a return that drops b words, unless it finishes.

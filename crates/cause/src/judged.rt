@@ -53,14 +53,14 @@ fn of_words(seg: &[u8], region: &[u16], n: Numbers, i: Instruction, d: Does) -> 
     if fault_of(few) != 0 {
         return few;
     }
-    let asked = asks(region, n, d, i.next);
+    let asked = asks(seg, region, n, d, i.next);
     if fault_of(asked) != 0 {
         return asked;
     }
     room(seg, n, d, i.taken, i.given)
 }
 
-fn asks(region: &[u16], n: Numbers, d: Does, next: usize) -> Why {
+fn asks(seg: &[u8], region: &[u16], n: Numbers, d: Does, next: usize) -> Why {
     match d {
         Does::Plain => Why::Holds,
         Does::Pool(x) => places::pool(n, x),
@@ -71,7 +71,7 @@ fn asks(region: &[u16], n: Numbers, d: Does, next: usize) -> Why {
         Does::Subrange => stack::ranged(region, n),
         Does::Jump(x) => flow::jump(n, next, x),
         Does::JumpIf(want, x) => flow::branch(region, n, want, next, x),
-        Does::Call(whose, k) => flow::call(region, n, whose, k),
+        Does::Call(whose, k) => flow::call(seg, region, n, whose, k),
         Does::Return(b) => flow::back(region, n, b),
     }
 }

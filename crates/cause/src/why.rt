@@ -66,8 +66,9 @@ pub enum Flow {
     // the jump's target; how far it lies below 0
     Target(usize),
     Before(usize),
-    // the routine called
+    // the routine called: not there, or not linked
     Routine(u16),
+    Unlinked(u16),
     // of how many links, how many were left with the bad one, the word where it stands, and what it holds
     Link(u16, u16, u16, u16),
     // what the mark's first bad word holds: MSDYN, MSPROC, MSENDV, MSIPC
@@ -123,6 +124,7 @@ fn of_flow(f: Flow) -> u8
         Flow::Target(_) => 7,
         Flow::Before(_) => 7,
         Flow::Routine(_) => 8,
+        Flow::Unlinked(_) => 8,
         Flow::Link(_, _, _, _) => 9,
         Flow::Dynamic(_) => 9,
         Flow::Caller(_) => 9,

@@ -70,13 +70,16 @@ fn judge_head(seg: &[u8]) -> Verdict
     checked(shape_ok(seg), 1, 0, v2)
 }
 
-// Checks 6 to 8 of routine k.
+// Checks 6 to 8 of routine k. One that is not linked has none, unless it is routine 1.
 fn judge_routine(seg: &[u8], k: u16) -> Verdict
     ensures { λ r. ⌜ rulingOf r ≡ ruling (routineChecks (now (seg .entry)) k) ⌝ }
 {
     let r = segment::routine_of(seg, k);
     let w = seg.len() / 2;
     let e = r.entry as usize;
+    if bounds::both(e == 0, k != 1) {
+        return Verdict::Accepted;
+    }
     let v8 = checked(
         bounds::within(22, 2 * w, r.exitic as usize),
         8,
@@ -88,14 +91,15 @@ fn judge_routine(seg: &[u8], k: u16) -> Verdict
 }
 
 // Whether routine k passes checks 6 to 8, of what is read once a segment: the sex, W and D. The routine's
-// word of the dictionary lies inside, and so do EXITIC and DATASIZE where check 6 passes: no word is tested for the end.
+// word of the dictionary lies inside, and so do EXITIC and DATASIZE where check 6 passes: no word is tested for the end. That a routine is not linked
+// is asked only of entries below 12, so that a linked one pays nothing for it.
 fn routine_passes(seg: &[u8], sex: bool, w: usize, d: usize, k: usize) -> bool
     requires { ⌜ (sex ≡ least (now seg)) × (w ≡ words (now seg)) × (d ≡ dict (now seg)) × (d + k < w) ⌝ }
     ensures { λ r. ⌜ r ≡ passes (routineChecks (now (seg .entry)) k) ⌝ }
 {
     let e = word_in(seg, sex, d + k) as usize;
     if e < 12 {
-        return false;
+        return bounds::both(e == 0, k != 1);
     }
     if w <= e + 1 {
         return false;

@@ -1,23 +1,26 @@
--- A call and its return give back the caller's registers: `calls` of specs/Cases. The mark that the call wrote is the mark that the return reads.
+-- A call and its return give back the caller's registers, and when a call is fault 8: `calls` of specs/Cases. The mark that the call wrote is the mark
+-- that the return reads.
 -- Above: Demands; below: specs/Cases, Steps, Judged's order of checks, Frame.
 use Prim.Native.Nat.{ℕ, _+_, _-_, _≤_, _<_}
 use native.Mathlib.Omega.{arith}
 use mathlib.Core.Path.{_≡_, refl, sym, ap, _∙_}
 use mathlib.Core.List.{List, [], _∷_, _++_}
-use mathlib.Core.Bool.{true, false, false≢true}
+use mathlib.Core.Logic.{_↔_}
+use mathlib.Core.Bool.{Bool, true, false, not, cond, false≢true}
 use lib.ListN.{length, getD}
-use borrow.Author.Tests.{le-leb, ne-eqb, ltb-false}
+use lib.Dec.{ltb}
+use borrow.Author.Tests.{le-leb, le-ltb, ne-eqb, ltb-false}
 use Rattle.basis.proofs.Bools.{inside-holds}
 use Rattle.segment.specs.Head.{count, datasize}
 use Rattle.operand.specs.Operand.{UB, DB}
-use Rattle.pmachine.specs.State.{Registers, ready, faulted, State}
+use Rattle.pmachine.specs.State.{Registers, Kind, ready, finished, faulted, State}
 use Rattle.pmachine.specs.Meaning.{Whose, globals, up, call, return}
 use Rattle.pmachine.specs.Opcode.{carried, one, two, opcode, rowIn, appendixB}
 use Rattle.pmachine.specs.Decoding.{instruction, decode}
-use Rattle.pmachine.specs.Step.{Outcome, floor, newRecord, markAt, resumes, Link, reaches, broken, isBroken, recordOf, reached, groundFor, asks, effect}
+use Rattle.pmachine.specs.Step.{Outcome, fault, goes, firstFault, floor, callable, newRecord, markAt, resumes, Link, reaches, broken, isBroken, recordOf, reached, groundFor, asks, effect}
 use Rattle.pmachine.specs.Sound.{Ranged}
 use Rattle.pmachine.specs.Run.{isReady, written, settled, step}
-use Rattle.demands.specs.Cases.{at-work, At, CallReturns, Calls}
+use Rattle.demands.specs.Cases.{at-work, stopped, At, CallReturns, CallFaults, Call, Calls}
 use Rattle.pmachine.proofs.Judged.{first-holds}
 use Rattle.pmachine.proofs.Runs.{step-ready}
 use Rattle.pmachine.proofs.Frame.{written-at}
@@ -122,16 +125,42 @@ call-returns bytes p reading s shared w u v r q a k b rg at gone back few room s
           (omega (arith, back .some)) room (omega (arith, at .code)) (i .1),
     )
 
-one-operand : (first : ℕ) (p : Whose) → opcode first ≡ carried (UB ∷ []) 0 0 (λ v. call p (one v)) → CallReturns (first ∷ []) p
+-- a call's checks in their order, 9, 8 and 4: which of them is 8's
+call-faults : (bytes : List ℕ) (p : Whose) → Reading bytes p → CallFaults bytes p
+unfolding isReady settled asks effect groundFor firstFault
+call-faults bytes p reading s shared w r k at =
+    let z : r .sp + 0 - 0 ≡ r .sp = omega arith in
+    let judged = step-ready s shared (at-work w r) refl ∙ ap (settled w r) (judged-at s shared w r (reading s shared w r k at .0) z) in
+    rw (judged, le-ltb (length w) (r .sp + 0) (at .some)) (go (isBroken (reached w (r .m) p)) (callable s k) (ltb (newRecord s (r .sp) k) (floor s)) _ _ _)
+  where
+    number : Kind → ℕ
+    number ready = 0
+    number finished = 0
+    number (faulted n place) = n
+
+    other : {t : State} {n : ℕ} → number (t .kind) ≡ n → (n ≡ 8 → ⊥) → t ≡ stopped w r 8 → ⊥
+    other e differs h = differs (sym e ∙ ap (λ (x : State). number (x .kind)) h)
+
+    go : (b c d : Bool) (q : Registers) (i : ℕ) (ws : List ℕ)
+        → (settled w r (cond b (fault 9) (cond (not c) (fault 8) (cond d (fault 4) (goes q i ws)))) ≡ stopped w r 8) ↔ ((b ≡ false) × (c ≡ false))
+    go true c d q i ws = (λ h. absurd (other refl (λ e. omega (arith, e)) h), λ h. absurd (false≢true (sym (h .0))))
+    go false false d q i ws = (λ h. (refl, refl), λ h. refl)
+    go false true true q i ws = (λ h. absurd (other refl (λ e. omega (arith, e)) h), λ h. absurd (false≢true (sym (h .1))))
+    go false true false q i ws = (λ h. absurd (other refl (λ e. omega (arith, e)) h), λ h. absurd (false≢true (sym (h .1))))
+
+both : (bytes : List ℕ) (p : Whose) → Reading bytes p → Call bytes p
+both bytes p reading = record { comes-back = call-returns bytes p reading; faults-with-eight = call-faults bytes p reading }
+
+one-operand : (first : ℕ) (p : Whose) → opcode first ≡ carried (UB ∷ []) 0 0 (λ v. call p (one v)) → Call (first ∷ []) p
 one-operand first p e =
-    call-returns (first ∷ []) p
+    both (first ∷ []) p
     (λ s shared w r k at.
     let h = coded s first (k ∷ []) (r .counter) (at .code) (at .are) in
     (decoded (h .0) e (one-UB (h .1 .0) (omega arith)) refl, omega (arith, h .1 .0)))
 
-two-operands : (first d : ℕ) → opcode first ≡ carried (DB ∷ UB ∷ []) 0 0 (λ v. call (up (one v)) (two v)) → d ≤ 127 → CallReturns (first ∷ d ∷ []) (up d)
+two-operands : (first d : ℕ) → opcode first ≡ carried (DB ∷ UB ∷ []) 0 0 (λ v. call (up (one v)) (two v)) → d ≤ 127 → Call (first ∷ d ∷ []) (up d)
 two-operands first d e few =
-    call-returns (first ∷ d ∷ []) (up d)
+    both (first ∷ d ∷ []) (up d)
     (λ s shared w r k at.
     let h = coded s first (d ∷ k ∷ []) (r .counter) (at .code) (at .are) in
     (decoded (h .0) e (then-UB (h .1 .0) (omega arith) few (h .1 .1 .0) (omega arith)) refl, omega (arith, h .1 .1 .0)))

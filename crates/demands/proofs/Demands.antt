@@ -10,7 +10,8 @@ use Rattle.operand.specs.Operand.{out}
 use Rattle.operand.specs.Reading.{Lies}
 use Rattle.operand.proofs.Operands.{reads}
 use Rattle.segment.specs.Judge.{checks, judged}
-use Rattle.turning.proofs.Positions.{turn-as-judged, turn-nine, turn-ten, turn-accepts}
+use Rattle.segment.proofs.Laws.{unlinked-checks, unlinked-first, unlinked-numbers}
+use Rattle.turning.proofs.Positions.{unlinked-words, turn-as-judged, turn-nine, turn-ten, turn-accepts}
 use Rattle.turning.proofs.Twice.{once, twins}
 use Rattle.turning.proofs.Outputs.{kept, writes, turns-back}
 use Rattle.pmachine.proofs.Rows.{lines-consecutive}
@@ -45,6 +46,10 @@ demands =
       refuses-exactly = λ cs n p. (first-failing n p cs, failing-first n p cs);
       accepts-exactly = λ cs. (all-pass cs, pass-all cs);
       judged-by = judged-is;
+      unlinked-checks = unlinked-checks;
+      unlinked-first = unlinked-first;
+      unlinked-words = unlinked-words;
+      unlinked-numbers = unlinked-numbers;
       turned-by = turn-as-judged;
       turned-nine = turn-nine;
       turned-ten = turn-ten;

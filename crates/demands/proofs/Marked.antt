@@ -6,7 +6,7 @@ use Rattle.basis.specs.Integer.{modulo, integerOf, wordOf, unary, binary, addOf
 use Rattle.basis.specs.Cases.{minus}
 use Rattle.operand.specs.Bytes.{wordBy}
 use Rattle.operand.specs.Operand.{ifThere, signed, fetched}
-use Rattle.segment.specs.Head.{least, word, dict, count, entry, datasize, start, pool}
+use Rattle.segment.specs.Head.{least, word, dict, count, entry, linked, datasize, start, pool}
 use Rattle.segment.specs.Small.{small, smallTurned}
 use Rattle.turning.specs.Turn.{frame, framed, position, other, listOf, swapByte, swapAt, turned}
 use Rattle.pmachine.specs.Opcode.{opcode, rowIn, appendixB}
@@ -18,7 +18,7 @@ use Rattle.demands.specs.Marked.{All, after, cutShort, afterCut, marked-
 
 pub cases-hold : All marked-cases
 unfolding marked-cases after cutShort afterCut minus inside modulo integerOf wordOf unary binary addOf mulOf quotOf remOf wordBy ifThere signed
-    fetched least word dict count entry datasize start pool small smallTurned frame framed position other listOf swapByte swapAt turned opcode rowIn
+    fetched least word dict count entry linked datasize start pool small smallTurned frame framed position other listOf swapByte swapAt turned opcode rowIn
     appendixB joined andThen operands lawful allLawful decodedWith rowDecoded decode follow reached wordAt target markAt resumes groundFor firstFault
     asks effect outcome judgedBy judge starting opened isReady written settled step run stepsDone
 cases-hold =

@@ -6,12 +6,13 @@ use Rattle.basis.specs.Bools.{every, inside}
 use Rattle.basis.specs.Part.{part, splice}
 use Rattle.operand.specs.Bytes.{wordBy}
 use Rattle.operand.specs.Operand.{ifThere, fetched}
-use Rattle.segment.specs.Head.{least, word, dict, reloc, pool, count, entry, datasize, exitic, start, sexBytes}
+use Rattle.segment.specs.Head.{least, word, dict, reloc, pool, count, entry, linked, datasize, exitic, start, sexBytes}
 use Rattle.basis.specs.Checks.{passed, ruling}
 use Rattle.segment.specs.Judge.{headChecks, routineChecks, routinesFrom, checks, judged}
+use Rattle.turning.specs.Turn.{frame, framed, position, other, listOf, swapByte, swapAt, turned}
 use Rattle.pmachine.specs.Opcode.{opcode, rowIn, appendixB}
 use Rattle.pmachine.specs.Decoding.{joined, andThen, operands, lawful, allLawful, decodedWith, rowDecoded, decode}
-use Rattle.pmachine.specs.Step.{markAt, resumes, groundFor, firstFault, asks, effect, outcome, judgedBy, judge}
+use Rattle.pmachine.specs.Step.{reached, markAt, resumes, groundFor, firstFault, asks, effect, outcome, judgedBy, judge}
 use Rattle.pmachine.specs.Sound.{kindInRange, inRange, starting}
 use Rattle.pmachine.specs.Run.{isReady, written, settled, step, run, stepsDone}
 use Rattle.session.specs.Session.{startOf, cpuOk, runOf, countOf}
@@ -22,7 +23,7 @@ use Rattle.entry.specs.Entries.{newOf, loadOf, lenOk, gapAt, gapOf, openOf, tur
 use Rattle.promises.specs.Requests.{loading, opening, turning}
 use Rattle.promises.proofs.Kept.{new-sound}
 use Rattle.promises.proofs.Requests.{stays-sound}
-use Rattle.demands.specs.Witness.{segment, store, loaded, opened, ran, openings, full, Witness}
+use Rattle.demands.specs.Witness.{segment, unlinked, declared, linking, calling, store, loaded, opened, ran, openings, full, Witness}
 
 made : answerRuling (newOf 56 4 .answer) ≡ passed
 unfolding newOf limitsOk every
@@ -43,9 +44,9 @@ ran-sound =
     (stays-sound store (loading 0 0 32) _ made-sound))))))
 
 pub witness : Witness
-unfolding segment store loaded opened ran openings full every inside part splice wordBy ifThere fetched least word dict reloc pool count entry
+unfolding segment unlinked declared linking calling store loaded opened ran openings full frame framed position other listOf swapByte swapAt turned every inside part splice wordBy ifThere fetched least word dict reloc pool count entry linked
     datasize exitic start sexBytes headChecks routineChecks routinesFrom checks ruling judged opcode rowIn appendixB joined andThen operands lawful
-    allLawful decodedWith rowDecoded decode markAt resumes groundFor firstFault asks effect outcome judgedBy judge kindInRange inRange starting
+    allLawful decodedWith rowDecoded decode reached markAt resumes groundFor firstFault asks effect outcome judgedBy judge kindInRange inRange starting
     isReady written settled step run stepsDone startOf cpuOk runOf countOf limitsOk slotOk placed apart sessionOk soundB refusing newOf loadOf lenOk
     gapAt gapOf openOf turnOf closeOf
 witness =
@@ -59,6 +60,9 @@ witness =
       turn-faulted = refl;
       small-run = refl;
       small-words = refl;
+      unlinked-loads = (refl, refl);
+      unlinked-call = refl;
+      twin-call = refl;
       no-bench = refl;
       not-sound = refl;
       no-session = refl;

@@ -2,22 +2,28 @@
 -- bytes at the counter, in the manual's words. `cases` and `walks` of proofs/Cases and `calls` of proofs/Calls prove them. Above: nothing; below: Run, Sound.
 use Prim.Native.Nat.{ℕ, _+_, _-_, _*_, _%_, _≤_, _<_}
 use mathlib.Core.Path.{_≡_}
+use mathlib.Core.Logic.{_↔_}
 use mathlib.Core.List.{List, [], _∷_, _++_}
-use mathlib.Core.Bool.{_&&_, cond}
+use mathlib.Core.Bool.{false, _&&_, cond}
 use lib.ListN.{length, getD, set, take, drop}
 use lib.IntN.{ℤ, pos, _+ℤ_}
 use lib.Signed.{leZ}
+use Rattle.basis.specs.Bools.{inside}
 use Rattle.basis.specs.Integer.{integerOf}
-use Rattle.segment.specs.Head.{datasize}
+use Rattle.segment.specs.Head.{count, linked, datasize}
 use Rattle.pmachine.specs.State.{Registers, ready, faulted, State}
 use Rattle.pmachine.specs.Meaning.{Whose, globals, up}
-use Rattle.pmachine.specs.Step.{floor, pointer, Link, reaches, broken, follow, reached, markAt, moved}
+use Rattle.pmachine.specs.Step.{floor, pointer, Link, reaches, broken, isBroken, follow, reached, markAt, moved}
 use Rattle.pmachine.specs.Run.{step, run}
 use Rattle.pmachine.specs.Sound.{Ranged}
 
 -- a session that is ready
 abbrev pub at-work : List ℕ → Registers → State
 at-work w r = record { words = w; registers = r; kind = ready }
+
+-- the same with fault n: "Only the session's kind changes."
+abbrev pub stopped : List ℕ → Registers → ℕ → State
+stopped w r n = record { words = w; registers = r; kind = faulted n (r .counter) }
 
 -- j, in 22..2W-1, is the byte that a distance leads to: "Jumps count from the byte after the instruction"
 pub record Leads (s : List ℕ) (next : ℕ) (distance : ℤ) (j : ℕ) : Type 0 where
@@ -87,9 +93,21 @@ CallReturns bytes parent =
     → (reached w (r .m) parent ≡ reaches (getD u (q .m) 0))
     × (step s shared (at-work v a) ≡ at-work v (record { sp = r .sp + p; m = r .m; counter = r .counter + length bytes + 1; routine = r .routine }))
 
+-- "8 routine number outside 1..n"; request 1, of a routine that is declared and not linked: "Calling it gives fault 8." So exactly, whatever the stack
+-- holds, unless a link is broken: 9 comes before 8.
+abbrev pub CallFaults : List ℕ → Whose → Type 0
+CallFaults bytes parent =
+    (s shared w : List ℕ) (r : Registers) (k : ℕ) → At s shared w r (bytes ++ (k ∷ [])) 0
+    → (step s shared (at-work w r) ≡ stopped w r 8) ↔ ((isBroken (reached w (r .m) parent) ≡ false) × ((inside 1 (count s + 1) k && linked s k) ≡ false))
+
+-- both, of the call with these bytes before the routine's number
+pub record Call (bytes : List ℕ) (parent : Whose) : Type 0 where
+  pub comes-back : CallReturns bytes parent
+  pub faults-with-eight : CallFaults bytes parent
+
 pub record Calls : Type 0 where
-  pub CPL : CallReturns (144 ∷ []) (up 0)
-  pub CPG : CallReturns (145 ∷ []) globals
-  pub CPI : (d : ℕ) → d ≤ 127 → CallReturns (146 ∷ d ∷ []) (up d)
-  pub SCPI1 : CallReturns (239 ∷ []) (up 1)
-  pub SCPI2 : CallReturns (240 ∷ []) (up 2)
+  pub CPL : Call (144 ∷ []) (up 0)
+  pub CPG : Call (145 ∷ []) globals
+  pub CPI : (d : ℕ) → d ≤ 127 → Call (146 ∷ d ∷ []) (up d)
+  pub SCPI1 : Call (239 ∷ []) (up 1)
+  pub SCPI2 : Call (240 ∷ []) (up 2)

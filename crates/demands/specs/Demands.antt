@@ -5,7 +5,7 @@ use mathlib.Core.Path.{_≡_}
 use mathlib.Core.Logic.{_↔_}
 use mathlib.Core.List.{List, [], _∷_, _++_, map}
 use mathlib.Core.Bool.{Bool, true, false, not, _||_}
-use Prim.Native.Nat.{ℕ, _+_, _*_, _-_, _/_, _≤_, _<_}
+use Prim.Native.Nat.{ℕ, suc, _+_, _*_, _-_, _/_, _≤_, _<_}
 use lib.ListN.{length, getD, take, drop}
 use lib.IntN.{ℤ, pos, negsuc, negℤ, natAbs, _+ℤ_, _*ℤ_}
 use lib.Signed.{quotZ, remZ}
@@ -13,12 +13,12 @@ use Rattle.basis.specs.Checks.{Check, passed, refused, ruling, passes, FirstFai
 use Rattle.operand.specs.Bytes.{byteAt}
 use Rattle.operand.specs.Operand.{Form, got, out, fetched}
 use Rattle.segment.specs.Head.{least, word, dict, reloc, pool, real, count, entry, datasize, exitic, start}
-use Rattle.segment.specs.Judge.{checks, judged}
+use Rattle.segment.specs.Judge.{headChecks, routineChecks, checks, judged}
 use Rattle.pmachine.specs.State.{Registers, State}
 use Rattle.pmachine.specs.Opcode.{appendixB, consecutive}
 use Rattle.pmachine.specs.Run.{isReady, step, run, stepsDone}
 use Rattle.pmachine.specs.Sound.{inRange, Loaded}
-use Rattle.turning.specs.Turn.{position, swapAt, turned, turnRuling, outputOf}
+use Rattle.turning.specs.Turn.{framed, position, swapAt, turned, turnRuling, outputOf}
 use Rattle.interleave.specs.Interleave.{By, mine, oneByOne, Below}
 use Rattle.sound.specs.Below.{startOf, cpuOf, runOf, countOf}
 use Rattle.sound.specs.Bench.{noSession, codeOf, slotAt, World, worldOf, sessionAt, sharedOf, wordsOf, codeAt, stateAt, at-cpu, at-sessions}
@@ -118,6 +118,12 @@ pub record Demands : Type 0 where
   pub accepts-exactly : (cs : List Check) → (ruling cs ≡ passed) ↔ (passes cs ≡ true)
   -- so for segments, for turning, and for every request to a bench: number and place of the answer are the ruling of its checks
   pub judged-by : (s : List ℕ) → judged s ≡ ruling (checks s)
+  -- request 1: "An entry of zero is lawful for every routine but routine 1; it has no word positions and no checks 6 to 8." "Routine 1 at zero still
+  -- gets 6"; and request 14: "A zero entry counts as start, DATASIZE and EXITIC 0."
+  pub unlinked-checks : (s : List ℕ) (k : ℕ) → (routineChecks s k ≡ []) ↔ ((entry s k ≡ 0) × (k ≡ 1 → ⊥))
+  pub unlinked-first : (s : List ℕ) → entry s 1 ≡ 0 → ruling (headChecks s) ≡ passed → judged s ≡ refused 6 1
+  pub unlinked-words : (s : List ℕ) (k w : ℕ) → entry s (suc k) ≡ 0 → framed s (suc k) w ≡ framed s k w
+  pub unlinked-numbers : (s : List ℕ) (k : ℕ) → entry s k ≡ 0 → (datasize s k ≡ 0) × (exitic s k ≡ 0) × (start s k ≡ 0)
   pub turned-by : (s : List ℕ) (room n p : ℕ) → judged s ≡ refused n p → turnRuling s room ≡ refused n p
   pub turned-nine : (s : List ℕ) (room : ℕ) → judged s ≡ passed → (pool s ≡ 0 → ⊥) → turnRuling s room ≡ refused 9 0
   pub turned-ten : (s : List ℕ) (room : ℕ) → judged s ≡ passed → pool s ≡ 0 → room < length s → turnRuling s room ≡ refused 10 0

@@ -1,8 +1,9 @@
 -- The promises are not empty: the entries lead from nothing to a sound bench with a ready, a finished and a faulted session, and each of them
--- takes a turn; and refusals 1, 6 and 11 to 17 are each given to somebody. So no runner that refuses everything, and no loader that takes
+-- takes a turn; a segment with a routine that is not linked loads; and refusals 1, 6 and 11 to 17 are each given to somebody. So no runner that refuses everything, and no loader that takes
 -- everything, meets the contracts.
 -- Proved as `witness` in proofs/Witness, by computing. Above: Demands. Below: bench's entries.
 use mathlib.Core.Path.{_≡_}
+use mathlib.Core.Bool.{true}
 use mathlib.Core.List.{List, [], _∷_, _++_}
 use Prim.Native.Nat.{ℕ, zero, suc}
 use lib.ListN.{replicate, take, drop}
@@ -12,13 +13,30 @@ use Rattle.sound.specs.Sound.{Sound}
 use Rattle.entry.specs.declared.Answer.{Answer}
 use Rattle.entry.specs.declared.Answer.the-variants.{Done, Refused}
 use Rattle.entry.specs.Answer.{Result}
-use Rattle.entry.specs.Entries.{newOf, loadOf, openOf, turnOf, closeOf}
+use Rattle.turning.specs.Turn.{turned}
+use Rattle.entry.specs.Entries.{newOf, loadedAt, loadOf, openOf, turnOf, closeOf}
 
 -- the document's small segment but for its last two bytes: SLDC 5 and SLDC 7, or others
 unfoldable pub segment : ℕ → ℕ → List ℕ
 segment x y =
     0x0B ∷ 0 ∷ 0 ∷ 0 ∷ 0x50 ∷ 0x4F ∷ 0x4E ∷ 0x44 ∷ 0x20 ∷ 0x20 ∷ 0x20 ∷ 0x20 ∷ 1 ∷ 0 ∷ 0 ∷ 0
     ∷ 2 ∷ 0 ∷ 0 ∷ 0 ∷ 0 ∷ 0 ∷ 1 ∷ 0 ∷ 0x0E ∷ 0 ∷ 0x1E ∷ 0 ∷ 0 ∷ 0 ∷ x ∷ y ∷ []
+
+-- a segment whose routine 2 is declared and not linked: its entry is 0. Routine 1 calls it (CPG 2)
+unfoldable pub unlinked : List ℕ
+unlinked =
+    0x0B ∷ 0 ∷ 0 ∷ 0 ∷ 0x50 ∷ 0x4F ∷ 0x4E ∷ 0x44 ∷ 0x20 ∷ 0x20 ∷ 0x20 ∷ 0x20 ∷ 1 ∷ 0 ∷ 0 ∷ 0
+    ∷ 2 ∷ 0 ∷ 0 ∷ 0 ∷ 0 ∷ 0 ∷ 2 ∷ 0 ∷ 0x0F ∷ 0 ∷ 0 ∷ 0 ∷ 0x20 ∷ 0 ∷ 0 ∷ 0 ∷ 145 ∷ 2 ∷ []
+
+-- it and its turned twin, both loaded, and a session on each
+unfoldable pub declared : List ℕ
+declared = unlinked ++ turned unlinked
+
+unfoldable pub linking : World
+linking = loadOf declared 1 34 34 (loadOf declared 0 0 34 (worldOf (newOf 56 4 .bench) (replicate 56 0)) .world) .world
+
+unfoldable pub calling : World
+calling = openOf declared 1 16 (openOf declared 0 16 linking .world) .world
 
 -- the small segment, then one that returns at once (RPU 0)
 unfoldable pub store : List ℕ
@@ -57,7 +75,11 @@ pub record Witness : Type 0 where
   -- the small run: "a turn of 9 returns 3"; word 15 is 5, word 14 is 7
   pub small-run : turnOf store 2 9 opened .answer ≡ Done 3
   pub small-words : drop 14 (wordsOf ran (sessionAt ran 2)) ≡ 7 ∷ 5 ∷ []
-  -- refusals
+  -- a segment with a routine that is not linked loads, and so does its twin; a call of that routine is fault 8 at its place
+  pub unlinked-loads : (loadedAt linking 0 ≡ true) × (loadedAt linking 1 ≡ true)
+  pub unlinked-call : sessionAt (turnOf declared 0 9 calling .world) 0 .cpu .kind ≡ Faulted 8 32
+  pub twin-call : sessionAt (turnOf declared 1 9 calling .world) 1 .cpu .kind ≡ Faulted 8 32
+  -- refusals; the entry that is refused with 6 is a zero of routine 1
   pub no-bench : newOf 56 57 .answer ≡ Refused 17 0
   pub not-sound : turnOf [] 0 1 ran .answer ≡ Refused 11 0
   pub no-session : turnOf store 4000000000 1 ran .answer ≡ Refused 12 0

@@ -10,4 +10,5 @@ mod table;
 
 pub use lines::after;
 pub use lines::line;
+pub use routines::heading;
 pub use routines::listing;

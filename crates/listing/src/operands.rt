@@ -68,12 +68,15 @@ fn lands(len: usize, t: usize) {
     }
 }
 
-// A routine's number, and whether the segment has it.
+// A routine's number, and whether the segment has it, and its code.
 pub fn routine(seg: &[u8], k: u16) {
     pond_say::number(k as u64);
     let h = segment::head(seg);
+    let r = segment::routine_of(seg, k);
     if !spans::one_to(h.count, k) {
         pond_say::text(b" (not there)");
+    } else if r.entry == 0 {
+        pond_say::text(b" (declared, not linked)");
     }
 }
 

@@ -21,14 +21,22 @@ pub fn listing(seg: &[u8]) {
 fn routine(seg: &[u8], k: u16) {
     let r = segment::routine_of(seg, k);
     heading(k, r);
+    if r.entry == 0 {
+        return;
+    }
     let start = r.start as usize;
     let end = spans::code_end(seg, start);
     code(seg, start, end, r.exitic as usize);
 }
 
-fn heading(k: u16, r: Routine) {
+// A routine's number, and where it stands. One that is declared and not linked has no code.
+pub fn heading(k: u16, r: Routine) {
     pond_say::text(b"routine ");
     pond_say::number(k as u64);
+    if r.entry == 0 {
+        pond_say::text(b": declared, not linked\n");
+        return;
+    }
     pond_say::text(b": first byte ");
     pond_say::number(r.start as u64);
     pond_say::text(b", DATASIZE ");

@@ -11,7 +11,8 @@ use lib.ListN.{length, getD}
 use Rattle.basis.specs.Bools.{inside}
 use Rattle.basis.proofs.Bools.{leb-iff, and-snd, inside-true}
 use Rattle.operand.specs.Bytes.{wordBy}
-use Rattle.segment.specs.Head.{least, word, dict, count, entry, datasize, start}
+use Rattle.segment.specs.Head.{least, word, dict, count, entry, linked, datasize, start}
+use Rattle.segment.proofs.Laws.{linked-some, linked-none}
 use Rattle.pmachine.specs.Step.{floor, pointer, reaches, broken, follow}
 use Rattle.pmachine.proofs.Links.{follow-more}
 use Rattle.plan.specs.declared.Facts.{Facts}
@@ -80,21 +81,28 @@ module _ (s : List ℕ) (f : Facts) (t : Told s f) where
   unfolding entry
   entry-told k e a = a ∙ (word-told (f .dict + k) ∙ ap (λ (d : ℕ). word s (d + k)) (t .dicts))
 
-  pub size-told : (k e z : ℕ) → e ≡ entry s k → z ≡ wordBy (eqb (f .sex) 0) s e → z ≡ datasize s k
+  size-told : (k e z : ℕ) → e ≡ entry s k → linked s k ≡ true → z ≡ wordBy (eqb (f .sex) 0) s e → z ≡ datasize s k
   unfolding datasize
-  size-told k e z a b = b ∙ (word-told e ∙ ap (word s) a)
+  size-told k e z a some b = b ∙ (word-told e ∙ rw some (ap (word s) a))
+
+  -- of a routine whose entry was read as 0: it is not linked
+  pub entered-none : (sp k e : ℕ) → e ≡ wordBy (eqb (f .sex) 0) s (f .dict + k) → e ≡ 0
+      → entered s sp k ≡ cond (ltb k 1) (Not 8) (cond (ltb (f .count) k) (Not 8) (Not 8))
+  unfolding entered
+  entered-none sp k e a z = rw (t .counts, linked-none s k (sym (entry-told k e a) ∙ z))
 
   -- with the entry and the size that were read
-  pub entered-told : (sp k e z : ℕ) → e ≡ wordBy (eqb (f .sex) 0) s (f .dict + k) → z ≡ wordBy (eqb (f .sex) 0) s e
+  pub entered-told : (sp k e z : ℕ) → e ≡ wordBy (eqb (f .sex) 0) s (f .dict + k) → 1 ≤ e → z ≡ wordBy (eqb (f .sex) 0) s e
       → entered s sp k
       ≡ cond (ltb k 1) (Not 8)
       (cond (ltb (f .count) k) (Not 8) (cond (ltb sp (f .floor + 5 + z)) (Not 4) (To (sp - 5 - z) (2 * (e + 1)))))
   unfolding entered start
-  entered-told sp k e z a b =
+  entered-told sp k e z a l b =
       let i = entry-told k e a in
-      let j = size-told k e z i b in
+      let some = linked-some s k (omega (arith, i, l)) in
+      let j = size-told k e z i some b in
       let d : sp - (5 + datasize s k) ≡ sp - 5 - datasize s k = omega arith in
-      rw (t .counts, t .floors, i, j, d)
+      rw (t .counts, t .floors, some, i, j, d)
 
 -- ---- one link, and then the rest
 

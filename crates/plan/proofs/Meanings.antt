@@ -11,7 +11,7 @@ use borrow.Author.Tests.{lt-ltb, le-ltb, le-leb, lt-leb, eq-eqb, ne-eqb, ltb-tru
 use Rattle.basis.specs.Bools.{inside}
 use Rattle.basis.specs.Integer.{leqOf}
 use Rattle.basis.proofs.Bools.{inside-true}
-use Rattle.segment.specs.Head.{words, count, datasize, pool}
+use Rattle.segment.specs.Head.{words, count, linked, datasize, pool}
 use Rattle.pmachine.specs.State.{Registers}
 use Rattle.pmachine.specs.Meaning.{Whose, Meaning, constant, pool-offset, load, address, store, index, indirect, unary, binary, division, duplicate}
 use Rattle.pmachine.specs.Meaning.{swap, nothing, subrange, jump, jump-if, call, return}
@@ -303,20 +303,23 @@ module _ (s shared w : List ℕ) (r : Registers) (h : Ranged s (length w) r) (sm
   pub is-call : (p : Whose) (rec k : ℕ) → reached w (r .m) p ≡ reaches rec
       → outcome s shared w r (instr (call p k) 0 0 n) ≡ called r k rec n (entered s (r .sp) k)
   unfolding outcome asks effect groundFor firstFault called entered inside
-  is-call p rec k e = go _ refl _ refl _ refl
+  is-call p rec k e = go _ refl _ refl _ refl _ refl
     where
-      go : (x : Bool) → ltb k 1 ≡ x → (y : Bool) → ltb (count s) k ≡ y → (z : Bool) → ltb (r .sp) (floor s + 5 + datasize s k) ≡ z
+      go : (x : Bool) → ltb k 1 ≡ x → (y : Bool) → ltb (count s) k ≡ y → (u : Bool) → linked s k ≡ u → (z : Bool) → ltb (r .sp) (floor s + 5 + datasize s k) ≡ z
           → outcome s shared w r (instr (call p k) 0 0 n) ≡ called r k rec n (entered s (r .sp) k)
-      go true d y f z g = rw (fits, e, d, lt-leb 1 k (ltb-true k 1 d))
-      go false d true f z g =
+      go true d y f u v z g = rw (fits, e, d, lt-leb 1 k (ltb-true k 1 d))
+      go false d true f u v z g =
           rw (fits, e, d, f, le-leb 1 k (ltb-false k 1 d), below-suc k (count s), lt-leb k (count s) (ltb-true (count s) k f))
-      go false d false f true g =
+      go false d false f false v z g =
+          rw (fits, e, d, f, v, le-leb 1 k (ltb-false k 1 d), below-suc k (count s), le-leb k (count s) (ltb-false (count s) k f))
+      go false d false f true v true g =
           let a = ltb-true (r .sp) (floor s + 5 + datasize s k) g in
           rw (
             fits,
             e,
             d,
             f,
+            v,
             le-leb 1 k (ltb-false k 1 d),
             below-suc k (count s),
             le-leb k (count s) (ltb-false (count s) k f),
@@ -324,13 +327,14 @@ module _ (s shared w : List ℕ) (r : Registers) (h : Ranged s (length w) r) (sm
             g,
             lt-ltb (newRecord s (r .sp) k) (floor s) (omega arith),
           )
-      go false d false f false g =
+      go false d false f true v false g =
           let a = ltb-false (r .sp) (floor s + 5 + datasize s k) g in
           rw (
             fits,
             e,
             d,
             f,
+            v,
             le-leb 1 k (ltb-false k 1 d),
             below-suc k (count s),
             le-leb k (count s) (ltb-false (count s) k f),

@@ -3,12 +3,12 @@
 -- the three crates on it; below: Step of `pmachine`.
 use Prim.Native.Nat.{ℕ, _+_, _-_, _%_}
 use mathlib.Core.List.{List, [], _∷_}
-use mathlib.Core.Bool.{Bool, _&&_, cond}
+use mathlib.Core.Bool.{Bool, _&&_, not, cond}
 use lib.ListN.{length, getD}
 use lib.Dec.{ltb, leb, eqb}
 use Rattle.basis.specs.Bools.{inside}
 use Rattle.basis.specs.Integer.{addOf, subOf, mulOf, negOf, incOf, decOf, magOf, quotOf, remOf, eqOf, neOf, leqOf, geqOf, leuOf, geuOf, andOf, orOf, notOf}
-use Rattle.segment.specs.Head.{count, datasize, start}
+use Rattle.segment.specs.Head.{count, linked, datasize, start}
 use Rattle.pmachine.specs.State.{Registers}
 use Rattle.pmachine.specs.Step.{Outcome, fault, finish, goes, moved, floor, newRecord, target, markAt}
 use Rattle.plan.specs.declared.Unary.{Unary}
@@ -126,7 +126,8 @@ unfoldable pub entered : List ℕ → ℕ → ℕ → Entry
 entered s sp k =
     cond (ltb k 1) (Not 8)
     (cond (ltb (count s) k) (Not 8)
-    (cond (ltb sp (floor s + 5 + datasize s k)) (Not 4) (To (newRecord s sp k) (start s k))))
+    (cond (not (linked s k)) (Not 8)
+    (cond (ltb sp (floor s + 5 + datasize s k)) (Not 4) (To (newRecord s sp k) (start s k)))))
 
 unfoldable pub called : Registers → ℕ → ℕ → ℕ → Entry → Outcome
 called r k parent next (To sp counter) =

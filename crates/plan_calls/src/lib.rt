@@ -127,6 +127,9 @@ pub fn enter(seg: &[u8], facts: Facts, sp: usize, k: u16) -> Entry
     }
     let least = facts.sex == 0;
     let e = operand::word_in(seg, least, facts.dict + k as usize) as usize;
+    if e == 0 {
+        return Entry::Not(8); // declared, not linked
+    }
     let size = operand::word_in(seg, least, e) as usize;
     if sp < facts.floor + 5 + size {
         return Entry::Not(4);

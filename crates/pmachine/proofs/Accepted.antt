@@ -7,8 +7,11 @@ use mathlib.Core.List.{List}
 use Rattle.segment.specs.Head.{words, pool}
 use Rattle.segment.specs.Judge.{judged}
 use Rattle.basis.specs.Checks.{passed}
-use Rattle.segment.proofs.Laws.{all-good}
-use Rattle.pmachine.specs.Sound.{Loaded}
+use Rattle.segment.proofs.Laws.{GoodRoutine, all-good}
+use Rattle.pmachine.specs.Sound.{Routine, Loaded}
+
+taken : {s : List ℕ} {k : ℕ} → GoodRoutine s k → Routine s k
+taken r = record { entry-low = r .low; entry-high = r .high; size = r .size }
 
 pub loaded : (s : List ℕ) → judged s ≡ passed → Loaded s
 loaded s h =
@@ -24,5 +27,6 @@ loaded s h =
       some = a .some;
       many = a .many;
       room = a .room;
-      routines = λ k l m. let r = g .routines k l m in record { entry-low = r .low; entry-high = r .high; size = r .size };
+      first = taken (g .first);
+      routines = λ k l m some. taken (g .routines k l m some);
     }

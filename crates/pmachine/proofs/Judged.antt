@@ -10,12 +10,12 @@ use lib.ListN.{length, getD}
 use borrow.Author.Tests.{not-false, leb-true, ltb-false, eqb-true}
 use Rattle.basis.specs.Bools.{inside}
 use Rattle.basis.proofs.Bools.{inside-true, both-true, cond-holds}
-use Rattle.segment.specs.Head.{count, start}
+use Rattle.segment.specs.Head.{count, linked, start}
 use Rattle.pmachine.specs.State.{Registers}
 use Rattle.pmachine.specs.Meaning.{Meaning, constant, pool-offset, load, address, store, index, indirect, unary}
 use Rattle.pmachine.specs.Meaning.{binary, division, duplicate, swap, nothing, subrange, jump, jump-if, call, return}
 use Rattle.pmachine.specs.Decoding.{Instruction, Decoded, instruction, faulty, decode}
-use Rattle.pmachine.specs.Step.{Outcome, fault, finish, goes, floor, pointer, private, target, newRecord, markAt, resumes}
+use Rattle.pmachine.specs.Step.{Outcome, fault, finish, goes, floor, pointer, private, target, callable, newRecord, markAt, resumes}
 use Rattle.pmachine.specs.Step.{moved, Ground, _when_, groundFor, firstFault, order, below, asks, effect, outcome, judgedBy, judge}
 use Rattle.pmachine.specs.Sound.{Ranged, Loaded}
 use Rattle.pmachine.proofs.Rows.{pushes}
@@ -125,14 +125,15 @@ module _ (s shared w : List ℕ) (r : Registers) (ld : Loaded s) (rg : Ranged s 
     branched n t true o a b e = jumped t o e
     branched n t false o a b e = on-stack n [] (omega arith) a b e
 
-    called : (j : ℕ) (ws : List ℕ) → length ws ≡ 5 → not (inside 1 (count s + 1) j) ≡ false → ltb (newRecord s sp j) (floor s) ≡ false
+    called : (j : ℕ) (ws : List ℕ) → length ws ≡ 5 → not (callable s j) ≡ false → ltb (newRecord s sp j) (floor s) ≡ false
         → Goes s (length w) (record { sp = newRecord s sp j; m = newRecord s sp j; counter = start s j; routine = j }) (newRecord s sp j) ws
     unfolding start
     called j ws five o e =
         let low = ltb-false (newRecord s sp j) (floor s) e in
-        let i = inside-true 1 (count s + 1) j (not-false (inside 1 (count s + 1) j) o) in
+        let b = both-true (inside 1 (count s + 1) j) (linked s j) (not-false (callable s j) o) in
+        let i = inside-true 1 (count s + 1) j (b .0) in
         let known : j ≤ count s = omega (arith, i .1) in
-        let f = ld .routines j (i .0) known in
+        let f = ld .routines j (i .0) known (b .1) in
         record {
           registers =
               record {
@@ -141,8 +142,8 @@ module _ (s shared w : List ℕ) (r : Registers) (ld : Loaded s) (rg : Ranged s 
                 sp-high = omega arith;
                 m-low = omega arith;
                 m-high = omega arith;
-                counter-low = omega (arith, f .entry-low);
-                counter-high = omega (arith, f .entry-high, ld .even);
+                counter-low = rw (b .1) (omega (arith, f .entry-low));
+                counter-high = rw (b .1) (omega (arith, f .entry-high, ld .even));
                 routine-low = i .0;
                 routine-high = known;
               };

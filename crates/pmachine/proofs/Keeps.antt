@@ -8,6 +8,7 @@ use mathlib.Core.Bool.{true}
 use lib.ListN.{length}
 use Rattle.basis.proofs.Bools.{cond-holds}
 use Rattle.segment.specs.Head.{start}
+use Rattle.segment.proofs.Laws.{linked-some}
 use Rattle.pmachine.specs.State.{Registers, State}
 use Rattle.pmachine.specs.Step.{Outcome, fault, finish, goes, floor, judge}
 use Rattle.pmachine.specs.Run.{isReady, settled, step, run}
@@ -61,15 +62,16 @@ run-keeps s shared l ld k t e h = whole-inRange s l (run s shared k t) (run-whol
 pub starting-ranged : (s : List ℕ) (l : ℕ) → Loaded s → floor s ≤ l → Ranged s l (starting s l)
 unfolding starting start
 starting-ranged s l ld h =
-    let f = ld .routines 1 (omega arith) (ld .some) in
+    let f = ld .first in
+    let some = linked-some s 1 (omega (arith, f .entry-low)) in
     record {
       low = h;
       sp-low = h;
       sp-high = omega arith;
       m-low = omega arith;
       m-high = omega arith;
-      counter-low = omega (arith, f .entry-low);
-      counter-high = omega (arith, f .entry-high, ld .even);
+      counter-low = rw some (omega (arith, f .entry-low));
+      counter-high = rw some (omega (arith, f .entry-high, ld .even));
       routine-low = omega arith;
       routine-high = ld .some;
     }

@@ -7,7 +7,7 @@ use mathlib.Core.Bool.{Bool, true}
 use lib.ListN.{length, replicate}
 use lib.Dec.{leb}
 use Rattle.basis.specs.Bools.{every}
-use Rattle.segment.specs.Head.{words, dict, count, entry, datasize, start, pool}
+use Rattle.segment.specs.Head.{words, dict, count, entry, linked, datasize, start, pool}
 use Rattle.pmachine.specs.State.{Registers, Kind, ready, finished, faulted, State}
 use Rattle.pmachine.specs.Step.{floor}
 
@@ -53,7 +53,7 @@ starting s l = record { sp = l; m = 1; counter = start s 1; routine = 1 }
 unfoldable pub opened : List ℕ → ℕ → State
 opened s l = record { words = replicate l 0; registers = starting s l; kind = ready }
 
--- What checks 6 and 7 give for routine k: its entry in 12..W-2, and DATASIZE.
+-- What checks 6 and 7 give for a routine k that is linked: its entry in 12..W-2, and DATASIZE.
 pub record Routine (s : List ℕ) (k : ℕ) : Type 0 where
   pub entry-low : 12 ≤ entry s k
   pub entry-high : entry s k + 1 < words s
@@ -69,4 +69,5 @@ pub record Loaded (s : List ℕ) : Type 0 where
   pub some : 1 ≤ count s
   pub many : count s ≤ 255
   pub room : dict s + count s < words s
-  pub routines : (k : ℕ) → 1 ≤ k → k ≤ count s → Routine s k
+  pub first : Routine s 1
+  pub routines : (k : ℕ) → 1 ≤ k → k ≤ count s → linked s k ≡ true → Routine s k

@@ -7,7 +7,7 @@ use lib.ListN.{length, getD}
 use lib.Dec.{ltb, leb, eqb}
 use Rattle.basis.specs.Bools.{inside}
 use Rattle.basis.specs.Integer.{leqOf}
-use Rattle.segment.specs.Head.{words, count, datasize, start, pool}
+use Rattle.segment.specs.Head.{words, count, linked, datasize, start, pool}
 use Rattle.pmachine.specs.State.{Registers}
 use Rattle.pmachine.specs.Meaning.{Whose, globals, up, Meaning, constant, pool-offset, load, address, store, index, indirect, unary, binary, division, duplicate, swap, nothing, subrange, jump, jump-if, call, return}
 use Rattle.pmachine.specs.Decoding.{Instruction, Decoded, instruction, faulty, decode}
@@ -69,6 +69,10 @@ readable w shared base i = not (eqb base 0) && leb (base + i) 65535 && (private 
 -- "Jumps count from the byte after the instruction", by a distance in two's complement. A target below 0 counts as 0, which faults too.
 unfoldable pub target : ℕ → ℕ → ℕ
 target next d = cond (ltb d 32768) (next + d) (next + d - 65536)
+
+-- 8: "routine number outside 1..n"; request 1: of a routine that is not linked, "Calling it gives fault 8."
+abbrev pub callable : List ℕ → ℕ → Bool
+callable s k = inside 1 (count s + 1) k && linked s k
 
 -- "SP-5-DATASIZE". Where that lies below 0 it counts as 0, which is below 6+G too.
 abbrev pub newRecord : List ℕ → ℕ → ℕ → ℕ
@@ -148,7 +152,7 @@ module _ (s shared w : List ℕ) (r : Registers) where
   asks next subrange = 10 when not (eqb (leqOf (stack 1) (stack 2)) 1 && eqb (leqOf (stack 2) (stack 0)) 1) ∷ []
   asks next (jump d) = 7 when not (inside 22 (length s) (target next d)) ∷ []
   asks next (jump-if b d) = 7 when (eqb (stack 0 % 2) b && not (inside 22 (length s) (target next d))) ∷ []
-  asks next (call p k) = 9 when isBroken (link p) ∷ 8 when not (inside 1 (count s + 1) k) ∷ []
+  asks next (call p k) = 9 when isBroken (link p) ∷ 8 when not (callable s k) ∷ []
   asks next (return b) = 9 when not (eqb (r .m) 1 || resumes s w mark (r .m + 5 + b)) ∷ []
 
   -- What happens. `sp` and `next` are SP after the words taken and given, and the byte after the instruction.

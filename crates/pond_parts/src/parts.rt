@@ -53,24 +53,18 @@ fn routine(seg: &[u8], k: u64) -> Outcome {
         return no_routine(h);
     }
     if k < 65536 {
-        heading(seg, k as u16);
+        code_of(seg, k as u16);
     }
     Outcome::Done
 }
 
-fn heading(seg: &[u8], k: u16) {
+fn code_of(seg: &[u8], k: u16) {
     let r = segment::routine_of(seg, k);
     let start = r.start as usize;
-    pond_say::text(b"routine ");
-    pond_say::number(k as u64);
-    pond_say::text(b": first byte ");
-    pond_say::number(r.start as u64);
-    pond_say::text(b", DATASIZE ");
-    pond_say::number(r.datasize as u64);
-    pond_say::text(b", EXITIC ");
-    pond_say::number(r.exitic as u64);
-    pond_say::end();
-    lines(front(seg, until(seg, start)), start, 0, ALL);
+    listing::heading(k, r);
+    if r.entry != 0 {
+        lines(front(seg, until(seg, start)), start, 0, ALL);
+    }
 }
 
 fn no_routine(h: Segment) -> Outcome {

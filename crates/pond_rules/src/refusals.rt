@@ -41,7 +41,7 @@ fn rule(number: u8) {
           the relocation pointer, word 1, must be 0\n\
           the pool pointer, word 7, must be 0 or a word of the segment from word 11 on\n\
           the dictionary must begin at word 11 or later, have 1 to 255 routines, and end inside the segment\n\
-          its entry must be a word from 12 to the last but one\n\
+          its entry must be a word from 12 to the last but one, or 0 for a routine that is declared and not linked, which routine 1 never is\n\
           its DATASIZE must be below 32768; more would mean native code, which is not carried\n\
           its EXITIC must be a byte of the segment from byte 22 on\n\
           only a segment without a pool can be turned: its pool pointer, word 7, must be 0\n\

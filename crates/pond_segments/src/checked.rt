@@ -104,6 +104,10 @@ fn table(seg: &[u8], count: u16) {
 fn row(seg: &[u8], k: u16) {
     let r = segment::routine_of(seg, k);
     pond_say::padded(k as u64, 9);
+    if r.entry == 0 {
+        pond_say::text(b"  declared, not linked\n");
+        return;
+    }
     pond_say::padded(r.entry as u64, 12);
     pond_say::padded(r.start as u64, 12);
     pond_say::padded(r.datasize as u64, 10);

@@ -11,6 +11,7 @@ pub fn flow(n: Numbers, f: Flow) {
         b"the jump leads to byte #, and the code is bytes 22 to #|\
           the jump leads to byte -#, and the code is bytes 22 to #|\
           it calls routine #, and the segment has routines 1 to #|\
+          it calls routine #, which the report declares and which was never linked in|\
           static link # of #, at word #, holds #, and must be 1_; the report has probably overwritten its own link|\
           static link # of #, at word #, holds #, and must be 1_; the globals' record has no link to follow|\
           in the mark at word # MSDYN, at word #, holds #, and must be 1_; the report has probably overwritten its own mark|\
@@ -33,18 +34,19 @@ fn told(n: Numbers, f: Flow) -> [usize; 6] {
         Flow::Target(t) => [0, t, code, 0, 0, 0],
         Flow::Before(k) => [1, k, code, 0, 0, 0],
         Flow::Routine(k) => [2, k as usize, n.count as usize, 0, 0, 0],
+        Flow::Unlinked(k) => [3, k as usize, 0, 0, 0, 0],
         Flow::Link(of, left, at, value) => {
             let k = link(at, value);
             let nth = less(of as usize + 1, left as usize);
             [k, nth, of as usize, at as usize, value as usize, last]
         }
-        Flow::Dynamic(value) => [5, m, m + 1, value as usize, last, 0],
-        Flow::Caller(value) => [6, m, m + 4, value as usize, end(1, n.count as usize), 0],
-        Flow::Segment(value) => [7, m, m + 3, value as usize, 0, 0],
-        Flow::Resume(value) => [8, m, m + 2, value as usize, n.code as usize, 0],
+        Flow::Dynamic(value) => [6, m, m + 1, value as usize, last, 0],
+        Flow::Caller(value) => [7, m, m + 4, value as usize, end(1, n.count as usize), 0],
+        Flow::Segment(value) => [8, m, m + 3, value as usize, 0, 0],
+        Flow::Resume(value) => [9, m, m + 2, value as usize, n.code as usize, 0],
         Flow::Back(sp, b) => {
             let floor = n.floor as usize;
-            [9, m, b as usize, sp, floor, end(floor, n.len as usize)]
+            [10, m, b as usize, sp, floor, end(floor, n.len as usize)]
         }
     }
 }
@@ -52,7 +54,7 @@ fn told(n: Numbers, f: Flow) -> [usize; 6] {
 // The record at word 1 is the outermost, and its link is 0 from the start.
 fn link(at: u16, value: u16) -> usize {
     if at as usize + value as usize == 1 {
-        return 4;
+        return 5;
     }
-    3
+    4
 }

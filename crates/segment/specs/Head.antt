@@ -2,7 +2,7 @@
 -- Below: bytes and words. Above: the verdict, turning, the machine. Assumes nothing.
 use Prim.Native.Nat.{ℕ, _+_, _-_, _*_, _/_, _%_}
 use mathlib.Core.List.{List}
-use mathlib.Core.Bool.{Bool, true, _&&_, _||_}
+use mathlib.Core.Bool.{Bool, true, _&&_, _||_, not, cond}
 use lib.ListN.{length}
 use lib.Dec.{leb, ltb, eqb}
 use Rattle.basis.specs.Bools.{inside}
@@ -43,15 +43,20 @@ count s = word s (dict s)
 unfoldable pub entry : List ℕ → ℕ → ℕ
 entry s k = word s (dict s + k)
 
--- "Entry e is the word number of DATASIZE; EXITIC is word e-1; the first instruction is byte 2(e+1)"
+-- Request 1: "declared but unlinked external routines. The manual says such an entry is zero"
+unfoldable pub linked : List ℕ → ℕ → Bool
+linked s k = not (eqb (entry s k) 0)
+
+-- "Entry e is the word number of DATASIZE; EXITIC is word e-1; the first instruction is byte 2(e+1)". A routine that is not linked has none of
+-- them; request 14: "A zero entry counts as start, DATASIZE and EXITIC 0."
 unfoldable pub datasize : List ℕ → ℕ → ℕ
-datasize s k = word s (entry s k)
+datasize s k = cond (linked s k) (word s (entry s k)) 0
 
 unfoldable pub exitic : List ℕ → ℕ → ℕ
-exitic s k = word s (entry s k - 1)
+exitic s k = cond (linked s k) (word s (entry s k - 1)) 0
 
 unfoldable pub start : List ℕ → ℕ → ℕ
-start s k = 2 * (entry s k + 1)
+start s k = cond (linked s k) (2 * (entry s k + 1)) 0
 
 -- the numbers of the header and of routine k, as the code's records have them
 abbrev pub headOf : List ℕ → Segment
@@ -95,7 +100,7 @@ poolOk s = eqb (pool s) 0 || inside 11 (words s) (pool s)
 abbrev pub dictOk : List ℕ → Bool
 dictOk s = inside 11 (words s) (dict s) && (inside 1 256 (count s) && ltb (dict s + count s) (words s))
 
--- 6: "an entry outside 12..W-2, zero included"
+-- 6: "an entry outside 12..W-2, zero included"; request 1 takes a zero out of the table for every routine but routine 1 (Judge)
 abbrev pub entryOk : List ℕ → ℕ → Bool
 entryOk s k = leb 12 (entry s k) && ltb (entry s k + 1) (words s)
 

@@ -3,8 +3,10 @@
 -- and soundness. Assumes nothing.
 use Prim.Native.Nat.{ℕ, zero, suc, _+_}
 use mathlib.Core.List.{List, [], _∷_, _++_}
+use mathlib.Core.Bool.{_||_, cond}
+use lib.Dec.{eqb}
 use Rattle.basis.specs.Checks.{Check, check, Ruling, passed, refused, ruling}
-use Rattle.segment.specs.Head.{shapeOk, sexOk, relocOk, poolOk, dictOk, entryOk, dataOk, exitOk, count}
+use Rattle.segment.specs.Head.{shapeOk, sexOk, relocOk, poolOk, dictOk, entryOk, dataOk, exitOk, count, linked}
 use Rattle.segment.specs.declared.Verdict.{Verdict}
 use Rattle.segment.specs.declared.Verdict.the-variants.{Accepted, Refused}
 
@@ -18,9 +20,11 @@ headChecks s =
     ∷ check 5 0 (dictOk s)
     ∷ []
 
--- "then 6, 7, 8 for routine 1"
+-- "then 6, 7, 8 for routine 1". Request 1: "An entry of zero is lawful for every routine but routine 1; it has .. no checks 6 to 8. Routine 1 at
+-- zero still gets 6."
 unfoldable pub routineChecks : List ℕ → ℕ → List Check
-routineChecks s k = check 6 k (entryOk s k) ∷ check 7 k (dataOk s k) ∷ check 8 k (exitOk s k) ∷ []
+routineChecks s k =
+    cond (linked s k || eqb k 1) (check 6 k (entryOk s k) ∷ check 7 k (dataOk s k) ∷ check 8 k (exitOk s k) ∷ []) []
 
 -- "then routine 2, and so on": those of the `left` routines from k on
 unfoldable pub routinesFrom : List ℕ → ℕ → ℕ → List Check

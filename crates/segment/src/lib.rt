@@ -3,7 +3,7 @@
 use operand::byte_at;
 use operand::word_at;
 ghost use mathlib.Core.Path.{_≡_};
-ghost use Prim.Native.Nat.{_+_, _-_};
+ghost use Prim.Native.Nat.{_+_};
 ghost use Rattle.segment.specs.Head.{least, datasize, headOf, routineOf, freshOf};
 
 // The numbers of a segment's header: how many words, whether words are least byte first, the
@@ -93,27 +93,25 @@ pub fn head(seg: &[u8]) -> Segment
     h
 }
 
-// One less, and 0 of 0.
-fn less_one(n: u16) -> u16
-    ensures { λ r. ⌜ r ≡ n - 1 ⌝ }
-{
-    if n == 0 {
-        return 0;
-    }
-    n - 1
-}
-
-// The numbers of routine k. Its entry is the word number of its DATASIZE.
+// The numbers of routine k. Its entry is the word number of its DATASIZE; a routine that is declared and not linked has the entry 0, and all is 0.
 pub fn routine_of(seg: &[u8], k: u16) -> Routine
     ensures { λ r. ⌜ r ≡ routineOf (now (seg .entry)) k ⌝ }
 {
     let least = is_least(seg);
     let dict = word_at(seg, least, Segment::DICT);
     let entry = word_at(seg, least, (dict as u32) + (k as u32));
+    if entry == 0 {
+        return Routine {
+            entry: 0,
+            datasize: 0,
+            exitic: 0,
+            start: 0,
+        };
+    }
     Routine {
         entry,
         datasize: word_at(seg, least, entry as u32),
-        exitic: word_at(seg, least, less_one(entry) as u32),
+        exitic: word_at(seg, least, (entry - 1) as u32),
         start: 2 * (entry as u32 + 1),
     }
 }

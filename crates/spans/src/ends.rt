@@ -1,7 +1,6 @@
 // Where the code of a routine ends: before the first word, from its own first byte up, that is known to be no code.
 // Above it: the listing of a routine. Below it: the header numbers and routines of `segment`.
 ghost use mathlib.Core.Path.{_≡_};
-ghost use Prim.Native.Nat.{_-_};
 ghost use Rattle.spans.specs.Ends.{nearer, nearerOf, endBy, codeEnd};
 
 // The first byte of a word, where that lies from start up and below end; else end.
@@ -15,24 +14,17 @@ fn nearest(start: usize, end: usize, word: u32) -> usize
     if at < end { at } else { end }
 }
 
-// One less, and 0 of 0.
-fn less_one(n: u16) -> u16
-    ensures { λ r. ⌜ r ≡ n - 1 ⌝ }
-{
-    if n == 0 {
-        return 0;
-    }
-    n - 1
-}
-
-// The words of routine k: its word of the dictionary, EXITIC and DATASIZE.
+// The words of routine k: its word of the dictionary and, if it is linked, EXITIC and DATASIZE.
 fn nearest_of(seg: &[u8], start: usize, end: usize, k: u16) -> usize
     ensures { λ r. ⌜ r ≡ nearerOf (now (seg .entry)) start end k ⌝ }
 {
     let h = segment::head(seg);
     let r = segment::routine_of(seg, k);
     let a = nearest(start, end, h.dict as u32 + k as u32);
-    let b = nearest(start, a, less_one(r.entry) as u32);
+    if r.entry == 0 {
+        return a;
+    }
+    let b = nearest(start, a, (r.entry - 1) as u32);
     nearest(start, b, r.entry as u32)
 }
 

@@ -8,17 +8,17 @@ use native.Mathlib.Omega.{arith}
 use mathlib.Core.Path.{_≡_, refl, sym, _∙_}
 use mathlib.Core.Logic.{⊎-elim}
 use mathlib.Core.List.{List, _++_}
-use mathlib.Core.Bool.{Bool, true, false, _||_, or-true, false≢true}
+use mathlib.Core.Bool.{Bool, true, false, _&&_, _||_, or-true, or-false, false≢true}
 use borrow.Author.Tests.{eq-eqb, eqb-true, ne-eqb, le-leb, lt-leb, leb-true}
 use lib.ListN.{length}
 use lib.Dec.{eqb}
 use Rattle.basis.specs.Bools.{inside}
-use Rattle.basis.proofs.Bools.{inside-true, inside-holds, or-cases}
-use Rattle.segment.specs.Head.{words, dict, count, entry, pool}
+use Rattle.basis.proofs.Bools.{inside-true, inside-holds, both-true, or-cases}
+use Rattle.segment.specs.Head.{words, dict, count, entry, linked, pool}
 use Rattle.segment.specs.Judge.{checks, judged}
 use Rattle.basis.specs.Checks.{passed, refused, ruling, followedBy}
 use Rattle.basis.proofs.Checks.{ruling-append, passing, followed, followed-by}
-use Rattle.segment.proofs.Laws.{all-good, all-routines}
+use Rattle.segment.proofs.Laws.{linked-some, linked-none, all-good}
 use Rattle.turning.specs.Turn.{frame, framed, position, swapAt, turned, turnChecks, turnRuling}
 use Rattle.turning.specs.Twin.{Answers}
 use Rattle.turning.proofs.Swaps.{swap-same, swap-none, swap-join, swap-front}
@@ -71,7 +71,7 @@ frame-inside e w l = iff _ _
     (λ h. let i = inside-true (e - 1) (e + 1) w h in near-frame e w (omega arith) (omega arith))
     (λ h. let n = frame-near e w h in inside-holds (e - 1) (e + 1) w (omega arith) (omega arith))
 
--- ---- the routines, one more at each turn of the loop that writes
+-- ---- the routines, one more at each turn of the loop that writes; one that is not linked adds no word
 
 pub frames-start : (s out : List ℕ) → out ≡ swapAt (framed s 0) s out
 unfolding framed
@@ -80,36 +80,52 @@ frames-start s out = sym (swap-none (framed s 0) s out (λ w. refl))
 pub frames-more : (s out : List ℕ) {t : List ℕ} (k : ℕ) {e : ℕ} → t ≡ swapAt (framed s k) s out → e ≡ entry s (k + 1) → 1 ≤ e
     → swapAt (inside (e - 1) (e + 1)) s t ≡ swapAt (framed s (k + 1)) s out
 unfolding framed
-frames-more s out k {e} h q l = rw (h, add-one k)
+frames-more s out k {e} h q l =
+    let some : 1 ≤ entry s (suc k) = omega (arith, rw (add-one k) at q) in
+    rw (h, add-one k)
     (swap-join (framed s k) (inside (e - 1) (e + 1)) s out
-    ∙ swap-same (λ w. framed s k w || inside (e - 1) (e + 1) w) (framed s (suc k)) s out (λ w. rw (frame-inside e w l, q, add-one k)))
+    ∙ swap-same (λ w. framed s k w || inside (e - 1) (e + 1) w) (framed s (suc k)) s out (λ w. rw (frame-inside e w l, q, add-one k, linked-some s (suc k) some)))
 
--- the words of routine k are among those of the first n; and what holds of each routine's words holds of all of them
-pub framed-has : (s : List ℕ) (w n k : ℕ) → 1 ≤ k → k ≤ n → frame (entry s k) w ≡ true → framed s n w ≡ true
+pub frames-same : (s out : List ℕ) {t : List ℕ} (k : ℕ) {e : ℕ} → t ≡ swapAt (framed s k) s out → e ≡ entry s (k + 1) → e ≡ 0
+    → t ≡ swapAt (framed s (k + 1)) s out
 unfolding framed
-framed-has s w zero k l r h = let f : ⊥ = omega arith in absurd f
-framed-has s w (suc n) k l r h =
-    ⊎-elim (λ (e : k ≡ suc n). simp (rw e at h, or-true)) (λ (m : k < suc n). rw (framed-has s w n k l (omega arith) h)) (eq-or-lt-of-le r)
+frames-same s out k h q z =
+    let none = linked-none s (suc k) (sym (rw (add-one k) at q) ∙ z) in
+    h ∙ rw (add-one k) (swap-same (framed s k) (framed s (suc k)) s out (λ w. rw none (sym (or-false (framed s k w)))))
 
-framed-in : (s : List ℕ) (w n top : ℕ) → ((k : ℕ) → 1 ≤ k → k ≤ n → entry s k < top) → framed s n w ≡ true → w < top
+-- a routine that is not linked has no word positions
+pub unlinked-words : (s : List ℕ) (k w : ℕ) → entry s (suc k) ≡ 0 → framed s (suc k) w ≡ framed s k w
+unfolding framed
+unlinked-words s k w e = rw (linked-none s (suc k) e) (or-false (framed s k w))
+
+-- the words of a linked routine k are among those of the first n; and what holds of each linked routine's words holds of all of them
+pub framed-has : (s : List ℕ) (w n k : ℕ) → 1 ≤ k → k ≤ n → linked s k ≡ true → frame (entry s k) w ≡ true → framed s n w ≡ true
+unfolding framed
+framed-has s w zero k l r some h = let f : ⊥ = omega arith in absurd f
+framed-has s w (suc n) k l r some h =
+    ⊎-elim (λ (e : k ≡ suc n). simp (rw e at some, rw e at h, or-true)) (λ (m : k < suc n). rw (framed-has s w n k l (omega arith) some h)) (eq-or-lt-of-le r)
+
+framed-in : (s : List ℕ) (w n top : ℕ) → ((k : ℕ) → 1 ≤ k → k ≤ n → linked s k ≡ true → entry s k < top) → framed s n w ≡ true → w < top
 unfolding framed
 framed-in s w zero top f h = absurd (false≢true h)
 framed-in s w (suc n) top f h =
-    or-cases (framed s n w) (frame (entry s (suc n)) w) h (λ p. framed-in s w n top (λ k l (r : k ≤ n). f k l (omega arith)) p)
-    (λ p. omega (arith, frame-near (entry s (suc n)) w p, f (suc n) (omega arith) (omega arith)))
+    or-cases (framed s n w) (linked s (suc n) && frame (entry s (suc n)) w) h (λ p. framed-in s w n top (λ k l (r : k ≤ n). f k l (omega arith)) p)
+    (λ p.
+    let q = both-true (linked s (suc n)) _ p in
+    omega (arith, frame-near (entry s (suc n)) w (q .1), f (suc n) (omega arith) (omega arith) (q .0)))
 
 -- ---- an accepted segment: its word positions lie in it, and the four writings write all of them
 
 module _ (s : List ℕ) (ok : judged s ≡ passed) where
-  pub entry-in : (k : ℕ) → 1 ≤ k → k ≤ count s → (12 ≤ entry s k) × (entry s k < words s)
-  entry-in k l r =
-      let f = all-routines s ok k l r in
+  pub entry-in : (k : ℕ) → 1 ≤ k → k ≤ count s → linked s k ≡ true → (12 ≤ entry s k) × (entry s k < words s)
+  entry-in k l r some =
+      let f = all-good s ok .routines k l r some in
       omega arith
 
   -- the same of a result e, for routine k + 1 of n
-  pub entry-fits : {n k e : ℕ} → n ≡ count s → k < n → e ≡ entry s (k + 1) → (1 ≤ e) × (2 * (e + 1) ≤ length s)
-  entry-fits {n} {k} {e} hn l he =
-      let i = entry-in (k + 1) (omega arith) (omega arith) in
+  pub entry-fits : {n k e : ℕ} → n ≡ count s → k < n → e ≡ entry s (k + 1) → 1 ≤ e → 2 * (e + 1) ≤ length s
+  entry-fits {n} {k} {e} hn l he some =
+      let i = entry-in (k + 1) (omega arith) (omega arith) (linked-some s (k + 1) (omega arith)) in
       omega arith
 
   pub position-in : (w : ℕ) → position s w ≡ true → w < words s
@@ -120,7 +136,7 @@ module _ (s : List ℕ) (ok : judged s ≡ passed) where
       (λ p. or-cases (inside 0 2 w || inside 6 11 w) (inside (dict s) (dict s + count s + 1) w) p
       (λ q. or-cases (inside 0 2 w) (inside 6 11 w) q (λ i. omega (arith, inside-true 0 2 w i)) (λ i. omega (arith, inside-true 6 11 w i)))
       (λ q. omega (arith, inside-true (dict s) (dict s + count s + 1) w q)))
-      (λ p. framed-in s w (count s) (words s) (λ k l r. entry-in k l r .1) p)
+      (λ p. framed-in s w (count s) (words s) (λ k l r some. entry-in k l r some .1) p)
 
   past-none : (i : ℕ) → length s ≤ i → position s (i / 2) ≡ false
   past-none i l = let g = all-good s ok .header in never _ (λ h. omega (arith, position-in (i / 2) h))

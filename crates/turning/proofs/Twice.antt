@@ -6,7 +6,7 @@ use native.Mathlib.Omega.{arith}
 use mathlib.Core.Path.{_≡_, refl, sym, ap, _∙_}
 use mathlib.Core.Logic.{⊎-elim}
 use mathlib.Core.List.{List}
-use mathlib.Core.Bool.{Bool, true, false, not, _||_, _&&_, or-true}
+use mathlib.Core.Bool.{Bool, true, false, not, _||_, _&&_, cond, or-true}
 use borrow.Author.Tests.{eqb-true}
 use lib.ListN.{length, List·getD-eq-default}
 use lib.Seq.{ext-getD}
@@ -14,7 +14,7 @@ use lib.Dec.{eqb}
 use Rattle.basis.specs.Bools.{inside}
 use Rattle.basis.proofs.Bools.{both-true, inside-holds, or-cases}
 use Rattle.operand.specs.Bytes.{byteAt, wordBy}
-use Rattle.segment.specs.Head.{words, least, word, dict, reloc, pool, real, count, entry, datasize, exitic, start, sexBytes, sexOk}
+use Rattle.segment.specs.Head.{words, least, word, dict, reloc, pool, real, count, entry, linked, datasize, exitic, start, sexBytes, sexOk}
 use Rattle.segment.specs.Judge.{headChecks, routineChecks, routinesFrom, checks, judged}
 use Rattle.basis.specs.Checks.{passed}
 use Rattle.segment.proofs.Laws.{Header, all-good}
@@ -46,6 +46,11 @@ sex-flips a b h =
 
 -- ---- checks and word positions, routine by routine
 
+-- a number of a routine that is linked, and 0 of one that is not
+if-linked : (b : Bool) {x y : ℕ} → (b ≡ true → x ≡ y) → cond b x 0 ≡ cond b y 0
+if-linked true h = h refl
+if-linked false h = refl
+
 same-from : (t s : List ℕ) (n j : ℕ) → ((k : ℕ) → j ≤ k → k < j + n → routineChecks t k ≡ routineChecks s k) → routinesFrom t n j ≡ routinesFrom s n j
 unfolding routinesFrom
 same-from t s zero j h = refl
@@ -53,7 +58,7 @@ same-from t s (suc n) j h =
     rw (h j (omega arith) (omega arith), same-from t s n (j + 1) (λ (k : ℕ) (l : j + 1 ≤ k) (m : k < j + 1 + n). h k (omega arith) (omega arith)))
 
 same-framed : (t s : List ℕ) (w n : ℕ) → ((k : ℕ) → k ≤ n → entry t k ≡ entry s k) → framed t n w ≡ framed s n w
-unfolding framed
+unfolding framed linked
 same-framed t s w zero h = refl
 same-framed t s w (suc n) h = rw (h (suc n) (omega arith), same-framed t s w n (λ (k : ℕ) (m : k ≤ n). h k (omega arith)))
 
@@ -142,9 +147,9 @@ module _ (s : List ℕ) (ok : judged s ≡ passed) where
   unfolding position
   in-dict k l = simp (inside-holds (dict s) (dict s + count s + 1) (dict s + k) (omega arith) (omega arith), or-true)
 
-  in-frame : (w k : ℕ) → 1 ≤ k → k ≤ count s → w ≤ entry s k → entry s k ≤ w + 1 → position s w ≡ true
+  in-frame : (w k : ℕ) → 1 ≤ k → k ≤ count s → linked s k ≡ true → w ≤ entry s k → entry s k ≤ w + 1 → position s w ≡ true
   unfolding position
-  in-frame w k l r a b = simp (framed-has s w (count s) k l r (near-frame (entry s k) w a b), or-true)
+  in-frame w k l r some a b = simp (framed-has s w (count s) k l r some (near-frame (entry s k) w a b), or-true)
 
   same-entry : (k : ℕ) → k ≤ count s → entry (turned s) k ≡ entry s k
   unfolding entry
@@ -156,20 +161,29 @@ module _ (s : List ℕ) (ok : judged s ≡ passed) where
       let e : dict s + 0 ≡ dict s = omega arith in
       rw same-dict (same-word (dict s) (rw e at (in-dict 0 (omega arith))))
 
+  same-linked : (k : ℕ) → k ≤ count s → linked (turned s) k ≡ linked s k
+  unfolding linked
+  same-linked k l = rw (same-entry k l)
+
   module _ (k : ℕ) (l : 1 ≤ k) (r : k ≤ count s) where
     same-datasize : datasize (turned s) k ≡ datasize s k
     unfolding datasize
-    same-datasize = rw (same-entry k r) (same-word (entry s k) (in-frame (entry s k) k l r (omega arith) (omega arith)))
+    same-datasize =
+        rw (same-linked k r, same-entry k r)
+        (if-linked (linked s k) (λ some. same-word (entry s k) (in-frame (entry s k) k l r some (omega arith) (omega arith))))
 
     same-exitic : exitic (turned s) k ≡ exitic s k
     unfolding exitic
     same-exitic =
-        let i = entry-in s ok k l r in
-        rw (same-entry k r) (same-word (entry s k - 1) (in-frame (entry s k - 1) k l r (omega arith) (omega arith)))
+        rw (same-linked k r, same-entry k r)
+        (if-linked (linked s k) (λ some.
+        let i = entry-in s ok k l r some in
+        same-word (entry s k - 1) (in-frame (entry s k - 1) k l r some (omega arith) (omega arith))))
 
     same-routine : SameRoutine s (turned s) k
     unfolding start
-    same-routine = record { entries = same-entry k r; datasizes = same-datasize; exitics = same-exitic; starts = rw (same-entry k r) }
+    same-routine =
+        record { entries = same-entry k r; datasizes = same-datasize; exitics = same-exitic; starts = rw (same-linked k r, same-entry k r) }
 
   same-position : (w : ℕ) → position (turned s) w ≡ position s w
   unfolding position
@@ -182,7 +196,8 @@ module _ (s : List ℕ) (ok : judged s ≡ passed) where
 
   same-three : (k : ℕ) → 1 ≤ k → k < 1 + count s → routineChecks (turned s) k ≡ routineChecks s k
   unfolding routineChecks
-  same-three k l r = rw (same-entry k (omega arith), same-datasize k l (omega arith), same-exitic k l (omega arith), same-words)
+  same-three k l r =
+      rw (same-linked k (omega arith), same-entry k (omega arith), same-datasize k l (omega arith), same-exitic k l (omega arith), same-words)
 
   same-ruling : judged (turned s) ≡ judged s
   unfolding judged checks

@@ -3,12 +3,12 @@
 -- Assumes nothing.
 use Prim.Native.Nat.{ℕ, zero, suc, _+_, _-_, _/_, _%_}
 use mathlib.Core.List.{List, [], _∷_, _++_}
-use mathlib.Core.Bool.{Bool, false, _||_, cond}
+use mathlib.Core.Bool.{Bool, false, _&&_, _||_, cond}
 use lib.ListN.{length, drop}
 use lib.Dec.{leb, eqb}
 use Rattle.basis.specs.Bools.{inside}
 use Rattle.operand.specs.Bytes.{byteAt}
-use Rattle.segment.specs.Head.{dict, count, entry, pool}
+use Rattle.segment.specs.Head.{dict, count, entry, linked, pool}
 use Rattle.basis.specs.Checks.{Check, check, Ruling, passed, refused, ruling}
 use Rattle.segment.specs.Judge.{checks}
 
@@ -16,12 +16,12 @@ use Rattle.segment.specs.Judge.{checks}
 unfoldable pub frame : ℕ → ℕ → Bool
 frame e w = eqb (w + 1) e || eqb w e
 
--- w is such a word of one of the routines 1 to k
+-- w is such a word of one of the routines 1 to k. Request 1: an entry of zero "has no word positions"
 unfoldable pub framed : List ℕ → ℕ → ℕ → Bool
 framed s zero w = false
-framed s (suc k) w = framed s k w || frame (entry s (suc k)) w
+framed s (suc k) w = framed s k w || (linked s (suc k) && frame (entry s (suc k)) w)
 
--- "Word positions are 0, 1, 6 to 10, D to D+n, and e-1 and e of every routine."
+-- "Word positions are 0, 1, 6 to 10, D to D+n, and e-1 and e of every routine", if it is linked
 unfoldable pub position : List ℕ → ℕ → Bool
 position s w = ((inside 0 2 w || inside 6 11 w) || inside (dict s) (dict s + count s + 1) w) || framed s (count s) w
 

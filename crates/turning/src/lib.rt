@@ -48,7 +48,7 @@ fn swap_words(seg: &[u8], out: &mut [u8], first: u32, end: u32)
     }
 }
 
-// EXITIC and DATASIZE of every routine.
+// EXITIC and DATASIZE of every routine that is linked.
 fn swap_frames(seg: &[u8], out: &mut [u8], n: u16)
     requires { ⌜ (judged (now seg) ≡ passed) × (length (now seg) ≤ length (now out)) × (n ≡ count (now seg)) ⌝ }
     ensures { λ _. ⌜ now (out .exit) ≡ swapAt (framed (now (seg .entry)) (count (now (seg .entry)))) (now (seg .entry)) (now (out .entry)) ⌝ }
@@ -58,7 +58,9 @@ fn swap_frames(seg: &[u8], out: &mut [u8], n: u16)
         k += 1;
         let r = segment::routine_of(seg, k);
         let e = r.entry as u32;
-        swap_words(seg, out, e - 1, e + 1);
+        if e != 0 {
+            swap_words(seg, out, e - 1, e + 1);
+        }
     }
 }
 

@@ -42,13 +42,13 @@ pub fn in_slot(world: &mut World, number: usize, start: u64, length: u64) {
 
 /// A session just opened; the small segment starts at 30, the hand segment at
 /// 34.
-fn open(world: &mut World, number: usize, slot: u64, base: u64, length: u64, start: u64) {
+pub fn open(world: &mut World, number: usize, slot: u64, base: u64, length: u64, start: u64) {
     *at_record(world, number) =
         Record { open: true, slot, base, length, session: ready(length, 1, start, 1) };
     fill_words(&mut world.memory, base as usize, &vec![0; length as usize]);
 }
 
-fn close(world: &mut World, number: usize) {
+pub fn close(world: &mut World, number: usize) {
     let Record { base, length, .. } = *at_record(world, number);
     fill_words(&mut world.memory, base as usize, &vec![0; length as usize]);
     *at_record(world, number) = Record::UNUSED;
@@ -118,7 +118,7 @@ fn loading(t: &mut Table) {
 fn loading_judges(t: &mut Table) {
     t.says(r#"loading: "11, 12, 17, then 1 to 8", with the routine number as the place of 6 to 8"#);
     let spoilt = [
-        (6, 2u16, 2, 0), (1, 1, 3, 0), (7, 1, 4, 0), (0, 10, 5, 0), (13, 0, 6, 2), (50, 32_768, 7, 3),
+        (6, 2u16, 2, 0), (1, 1, 3, 0), (7, 1, 4, 0), (0, 10, 5, 0), (13, 11, 6, 2), (50, 32_768, 7, 3),
         (15, 21, 8, 1),
     ];
     for (word, value, number, place) in spoilt {

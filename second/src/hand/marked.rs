@@ -39,7 +39,7 @@ fn small_with(code: &[u8]) -> Vec<u8> {
 
 /// S = 2 words of 9, one session of a segment at word 2, all its words 0, then
 /// 2 free words of 9; SP = L, M = 1.
-fn opened(bytes: &[u8], length: u64, start: u64) -> World {
+pub fn opened(bytes: &[u8], length: u64, start: u64) -> World {
     let mut bench = blank_bench();
     (bench.shared, bench.words) = (2, length + 4);
     bench.slots[0] = Slot { loaded: true, start: 0, length: bytes.len() as u64 };
@@ -51,7 +51,7 @@ fn opened(bytes: &[u8], length: u64, start: u64) -> World {
 }
 
 /// Steps of session 0: the session after them, and words of its region.
-fn runs<'a>(story: Story<'a>, k: u64, done: u64, session: Session, words: &[(usize, &[u16])]) -> Story<'a> {
+pub fn runs<'a>(story: Story<'a>, k: u64, done: u64, session: Session, words: &[(usize, &[u16])]) -> Story<'a> {
     story.goes(Call::Turn { session: 0, k }, done, |world| {
         at_record(world, 0).session = session;
         for (at, words) in words {
@@ -60,7 +60,7 @@ fn runs<'a>(story: Story<'a>, k: u64, done: u64, session: Session, words: &[(usi
     })
 }
 
-fn faulted(session: Session, number: u8) -> Session {
+pub fn faulted(session: Session, number: u8) -> Session {
     Session { kind: Kind::Faulted { number, place: session.counter }, ..session }
 }
 

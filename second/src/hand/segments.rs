@@ -17,14 +17,14 @@ pub fn fill(t: &mut Table) {
 }
 
 /// The hand segment with words changed.
-fn hand_with(words: &[(usize, u16)]) -> Vec<u8> {
+pub fn hand_with(words: &[(usize, u16)]) -> Vec<u8> {
     let mut bytes = hand_segment(0);
     set_words(&mut bytes, words);
     bytes
 }
 
 /// The hand segment's numbers.
-fn hand_numbers() -> Judged {
+pub fn hand_numbers() -> Judged {
     Judged {
         words: 64,
         least_first: true,
@@ -106,7 +106,7 @@ fn refusals_4_and_5(t: &mut Table) {
 }
 
 /// W = 300, D = 11, n routines with one entry, 290.
-fn many(n: u16) -> Vec<u8> {
+pub fn many(n: u16) -> Vec<u8> {
     let mut bytes = vec![0; 600];
     set_words(&mut bytes, &[(0, 11), (6, 1), (11, n), (289, 22), (290, 7)]);
     for number in 1..=usize::from(n.min(256)) {
@@ -131,8 +131,8 @@ fn the_most_routines(t: &mut Table) {
 }
 
 fn refusals_6_to_8(t: &mut Table) {
-    t.says(r#""6 an entry outside 12..W-2, zero included"; the place is the routine number"#);
-    for entry in [0, 11, 63, 64, 65_535] {
+    t.says(r#""6 an entry outside 12..W-2"; the place is the routine number (for zero see `unlinked`)"#);
+    for entry in [1, 11, 63, 64, 65_535] {
         t.refused(&format!("entry of routine 1: {entry}"), &hand_with(&[(12, entry)]), 6, 1);
         t.refused(&format!("entry of routine 3: {entry}"), &hand_with(&[(14, entry)]), 6, 3);
     }
@@ -169,8 +169,8 @@ fn the_order_of_judging(t: &mut Table) {
     t.refused("n and an entry", &hand_with(&[(11, 0), (12, 0)]), 5, 0);
     t.refused("entry and DATASIZE", &hand_with(&[(12, 0), (16, 32_768)]), 6, 1);
     t.refused("DATASIZE and EXITIC", &hand_with(&[(16, 32_768), (15, 0)]), 7, 1);
-    t.refused("routine 1's 8 and routine 2's 6", &hand_with(&[(15, 0), (13, 0)]), 8, 1);
-    t.refused("routine 2's 6 and routine 3's 7", &hand_with(&[(13, 0), (50, 32_768)]), 6, 2);
+    t.refused("routine 1's 8 and routine 2's 6", &hand_with(&[(15, 0), (13, 11)]), 8, 1);
+    t.refused("routine 2's 6 and routine 3's 7", &hand_with(&[(13, 11), (50, 32_768)]), 6, 2);
 }
 
 fn refusals_9_and_10(t: &mut Table) {

@@ -2,6 +2,7 @@
 //! that every entry refuses an unsound bench with 11, before all else.
 
 use super::benches::{empty, in_slot, rigged};
+use super::segments::hand_with;
 use super::{at_record, ready, Table};
 use crate::bench::{Record, Slot};
 use crate::machine::Kind;
@@ -13,6 +14,7 @@ const WIDE: u64 = 1 << 32;
 pub fn fill(t: &mut Table) {
     soundness_of_sizes(t);
     soundness_of_slots(t);
+    soundness_of_unlinked_routines(t);
     soundness_of_regions(t);
     soundness_of_sessions(t);
     soundness_of_l_against_6_and_g(t);
@@ -115,6 +117,44 @@ fn soundness_of_slots(t: &mut Table) {
         world.bench.slots[15].start = 33;
         world.bench.slots[3] = Slot { loaded: true, start: 1, length: 32 };
     });
+}
+
+fn soundness_of_unlinked_routines(t: &mut Table) {
+    t.says(r#"02, request 1: "An entry of zero is lawful for every routine but routine 1 [...]. Turning and soundness read from then on with the amended rule.""#);
+    // the hand segment is at 32: its entries are the words at 56, 58 and 60
+    still_sound!(t, |world| world.store[58] = 0);
+    still_sound!(t, |world| world.store[60] = 0);
+    still_sound!(t, |world| { world.store[58] = 0; world.store[60] = 0; });
+    unsound!(t, |world| world.store[56] = 0); // routine 1
+    unsound!(t, |world| { world.store[56] = 0; world.store[58] = 0; world.store[60] = 0; });
+    unsound!(t, |world| world.store[24] = 0); // the small segment's one routine
+    unsound!(t, |world| world.store[58] = 1);
+    unsound!(t, |world| world.store[58] = 11);
+    unsound!(t, |world| { world.store[58] = 0; world.store[60] = 11; }); // a later one
+    unsound!(t, |world| { world.store[58] = 0; world.store[133] = 0x80; }); // its DATASIZE
+    unsound!(t, |world| { world.store[58] = 0; world.store[130] = 21; }); // its EXITIC
+    // DATASIZE and EXITIC of routine 2 as it was are judged no more
+    still_sound!(t, |world| { world.store[58] = 0; world.store[113] = 0x80; world.store[110] = 21; });
+    // a session in a routine that is unlinked: 1..n is all that is asked
+    still_sound!(t, |world| { world.store[58] = 0; world.bench.records[1].session.routine = 2; });
+    still_sound!(t, |world| { world.store[60] = 0; world.bench.records[1].session.routine = 3; });
+    unsound!(t, |world| { world.store[60] = 0; world.bench.records[1].session.routine = 4; });
+    // the same in a slot that no session names
+    still_sound!(t, |world| third_slot(world, &[(13, 0)]));
+    still_sound!(t, |world| third_slot(world, &[(13, 0), (14, 0)]));
+    unsound!(t, |world| third_slot(world, &[(12, 0)]));
+    unsound!(t, |world| third_slot(world, &[(12, 0), (13, 0), (14, 0)]));
+    unsound!(t, |world| third_slot(world, &[(13, 1)]));
+    unsound!(t, |world| third_slot(world, &[(13, 0), (14, 11)]));
+    unsound!(t, |world| third_slot(world, &[(13, 0), (50, 32_768)]));
+    unsound!(t, |world| third_slot(world, &[(13, 0), (49, 21)]));
+}
+
+/// The hand segment with words changed in slot 9.
+fn third_slot(world: &mut World, words: &[(usize, u16)]) {
+    let start = world.store.len() as u64;
+    world.store.extend(hand_with(words));
+    in_slot(world, 9, start, 128);
 }
 
 fn soundness_of_regions(t: &mut Table) {
