@@ -89,7 +89,8 @@ static int compare_programs(void) {
     }
     return good;
 }
-/* The reference goes step by step, to see which first bytes were run without a fault; the others go in one turn. */
+/* The reference goes step by step, to see which first bytes were run without a fault; the others go in one turn. An earlier proved turn is not among
+   them: a request may have changed what it answers here. */
 static int compare_damaged(long *faults, long *stepped) {
     int good = 1;
     for (int it = 0; it < DAMAGED && good; it++) {
@@ -104,6 +105,7 @@ static int compare_damaged(long *faults, long *stepped) {
         keep(done);
         faults[regs[R_FAULT]]++;
         for (int i = 0; i < NI && good; i++) {
+            if (!strcmp(IMPL[i].name, "before")) continue;
             fresh();
             good &= same(i, IMPL[i].turn(mem, N, seg, w2, regs, 60), "damaged", it);
         }

@@ -2,10 +2,12 @@
 -- Above: the proofs of enter, in_order and walk in `plan_calls`; below: Step of `pmachine`, and what Facts tell.
 use mathlib.Core.Path.{_≡_, refl, ap, sym, _∙_}
 use mathlib.Core.List.{List}
-use mathlib.Core.Bool.{Bool, true, false, _&&_, cond}
+use mathlib.Core.Logic.{⊎-elim}
+use mathlib.Core.Bool.{Bool, true, false, _&&_, not, cond}
 use Prim.Native.Nat.{ℕ, suc, _+_, _-_, _*_, _<_, _≤_}
 use native.Mathlib.Omega.{arith}
-use borrow.Author.Tests.{le-leb, leb-true, eq-eqb, ne-eqb, eqb-true}
+use native.Mathlib.Nat.{eq-or-lt-of-le}
+use borrow.Author.Tests.{le-leb, leb-true, ltb-false, eq-eqb, ne-eqb, eqb-true, eqb-false}
 use lib.Dec.{ltb, leb, eqb}
 use lib.ListN.{length, getD}
 use Rattle.basis.specs.Bools.{inside}
@@ -14,10 +16,12 @@ use Rattle.operand.specs.Bytes.{wordBy}
 use Rattle.segment.specs.Head.{least, word, dict, count, entry, linked, datasize, start}
 use Rattle.segment.proofs.Laws.{linked-some, linked-none}
 use Rattle.pmachine.specs.Step.{floor, pointer, reaches, broken, follow}
+use Rattle.pmachine.specs.Sound.{Loaded}
 use Rattle.pmachine.proofs.Links.{follow-more}
 use Rattle.plan.specs.declared.Facts.{Facts}
+use Rattle.plan.specs.declared.Entry.{Entry}
 use Rattle.plan.specs.declared.Entry.the-variants.{To, Not}
-use Rattle.plan.specs.Mirror.{entered, inOrder}
+use Rattle.plan.specs.Mirror.{entryFault, entered, inOrder}
 use Rattle.plan.specs.Told.{sexOf, Told}
 
 -- below n + 1 is n at most
@@ -65,6 +69,23 @@ disordered len size n low mark sp not-all =
     not-all (leb-true _ _ a) (leb-true _ _ b) (routine .0) (omega (arith, routine .1)) (eqb-true _ _ d) (counter .0) (omega (arith, counter .1))
     (inside-true low (size + 1) sp f .0))
 
+-- what is entered, unless there is a fault
+abbrev byFault : ℕ → Entry → Entry
+byFault n to = cond (eqb n 0) to (Not n)
+
+room : (full : Bool) (to : Entry) → cond full (Not 4) to ≡ byFault (cond full 4 0) to
+room true to = refl
+room false to = refl
+
+pub no-fault : (e sp needed : ℕ) → entryFault e sp needed ≡ 0 → needed ≤ sp
+unfolding entryFault
+no-fault e sp needed h = go (eqb e 0) (ltb sp needed) refl h
+  where
+    go : (zero full : Bool) → ltb sp needed ≡ full → _≡_ {A = ℕ} (cond zero 8 (cond full 4 0)) 0 → needed ≤ sp
+    go true full l n = absurd (omega (arith, n))
+    go false true l n = absurd (omega (arith, n))
+    go false false l n = ltb-false sp needed l
+
 module _ (s : List ℕ) (f : Facts) (t : Told s f) where
   sex-told : eqb (f .sex) 0 ≡ least s
   sex-told = go (least s) (t .sexes)
@@ -81,28 +102,37 @@ module _ (s : List ℕ) (f : Facts) (t : Told s f) where
   unfolding entry
   entry-told k e a = a ∙ (word-told (f .dict + k) ∙ ap (λ (d : ℕ). word s (d + k)) (t .dicts))
 
+  -- what was read as an entry is a word of the segment, also where it is 0
+  pub entry-within : Loaded s → (k e : ℕ) → 1 ≤ k → k ≤ f .count → e ≡ wordBy (eqb (f .sex) 0) s (f .dict + k) → 2 * e + 2 ≤ length s
+  entry-within l k e low high a =
+      let i = entry-told k e a in
+      ⊎-elim (λ (z : 0 ≡ e). omega (arith, l .long, z))
+      (λ (some : 0 < e).
+      let r = l .routines k low (omega (arith, t .counts)) (linked-some s k (omega (arith, i, some))) in
+      omega (arith, i, l .even, r .entry-high))
+      (eq-or-lt-of-le {n = 0} {m = e} (omega arith))
+
   size-told : (k e z : ℕ) → e ≡ entry s k → linked s k ≡ true → z ≡ wordBy (eqb (f .sex) 0) s e → z ≡ datasize s k
   unfolding datasize
   size-told k e z a some b = b ∙ (word-told e ∙ rw some (ap (word s) a))
 
-  -- of a routine whose entry was read as 0: it is not linked
-  pub entered-none : (sp k e : ℕ) → e ≡ wordBy (eqb (f .sex) 0) s (f .dict + k) → e ≡ 0
-      → entered s sp k ≡ cond (ltb k 1) (Not 8) (cond (ltb (f .count) k) (Not 8) (Not 8))
-  unfolding entered
-  entered-none sp k e a z = rw (t .counts, linked-none s k (sym (entry-told k e a) ∙ z))
-
-  -- with the entry and the size that were read
-  pub entered-told : (sp k e z : ℕ) → e ≡ wordBy (eqb (f .sex) 0) s (f .dict + k) → 1 ≤ e → z ≡ wordBy (eqb (f .sex) 0) s e
+  -- with the entry and the size that were read, and the number of the fault
+  pub entered-told : (sp k e z : ℕ) → e ≡ wordBy (eqb (f .sex) 0) s (f .dict + k) → z ≡ wordBy (eqb (f .sex) 0) s e
       → entered s sp k
       ≡ cond (ltb k 1) (Not 8)
-      (cond (ltb (f .count) k) (Not 8) (cond (ltb sp (f .floor + 5 + z)) (Not 4) (To (sp - 5 - z) (2 * (e + 1)))))
-  unfolding entered start
-  entered-told sp k e z a l b =
-      let i = entry-told k e a in
-      let some = linked-some s k (omega (arith, i, l)) in
-      let j = size-told k e z i some b in
-      let d : sp - (5 + datasize s k) ≡ sp - 5 - datasize s k = omega arith in
-      rw (t .counts, t .floors, some, i, j, d)
+      (cond (ltb (f .count) k) (Not 8) (byFault (entryFault e sp (f .floor + 5 + z)) (To (sp - 5 - z) (2 * (e + 1)))))
+  unfolding entered start entryFault
+  entered-told sp k e z a b = rw (t .counts) (ap (λ (x : Entry). cond (ltb k 1) (Not 8) (cond (ltb (count s) k) (Not 8) x)) (go (eqb e 0) refl))
+    where
+      go : (zero : Bool) → eqb e 0 ≡ zero
+          → cond (not (linked s k)) (Not 8) (cond (ltb sp (floor s + 5 + datasize s k)) (Not 4) (To (sp - (5 + datasize s k)) (start s k)))
+          ≡ byFault (cond zero 8 (cond (ltb sp (f .floor + 5 + z)) 4 0)) (To (sp - 5 - z) (2 * (e + 1)))
+      go true h = rw (linked-none s k (sym (entry-told k e a) ∙ eqb-true e 0 h))
+      go false h =
+          let i = entry-told k e a in
+          let some = linked-some s k (omega (arith, i, eqb-false e 0 h)) in
+          let d : sp - (5 + datasize s k) ≡ sp - 5 - datasize s k = omega arith in
+          rw (t .floors, some, i, size-told k e z i some b, d) (room (ltb sp (floor s + 5 + datasize s k)) _)
 
 -- ---- one link, and then the rest
 

@@ -122,6 +122,9 @@ unfoldable pub branched : List ℕ → ℕ → Registers → ℕ → ℕ → ℕ
 branched w len r want next a =
     cond (eqb (getD w (r .sp) 0 % 2) want) (jumped len r (r .sp + 1) next a) (goes (moved r (r .sp + 1) next) (r .sp + 1) [])
 
+unfoldable pub entryFault : ℕ → ℕ → ℕ → ℕ
+entryFault e sp needed = cond (eqb e 0) 8 (cond (ltb sp needed) 4 0)
+
 unfoldable pub entered : List ℕ → ℕ → ℕ → Entry
 entered s sp k =
     cond (ltb k 1) (Not 8)

@@ -12,7 +12,7 @@ ghost use lib.ListN.{length};
 ghost use Rattle.pmachine.specs.Step.{follow, markAt, target};
 ghost use Rattle.pmachine.specs.Sound.{Loaded};
 ghost use Rattle.plan.specs.Answer.{regsOf, linkOf, outcomeOf};
-ghost use Rattle.plan.specs.Mirror.{inCode, jumped, branched, entered, called, inOrder, returned};
+ghost use Rattle.plan.specs.Mirror.{inCode, jumped, branched, entryFault, entered, called, inOrder, returned};
 ghost use Rattle.plan.specs.Told.{Told};
 
 // A target that lies in the code, or 0.
@@ -114,7 +114,21 @@ pub fn reach(region: &[u16], m: usize, d: u16) -> Link
     walk(&region[0..], m, d)
 }
 
-// Where routine k is entered from the stack pointer sp.
+// The fault of a call whose routine has this entry, 0 if it is not linked, from the stack pointer sp, which must be `needed` at least; 0 if there is none.
+// One number for both faults, since a return of its own for each costs some half an instruction at every step.
+fn entry_fault(e: usize, sp: usize, needed: usize) -> u8
+    ensures { λ r. ⌜ r ≡ entryFault e sp needed ⌝ }
+{
+    if e == 0 {
+        return 8;
+    }
+    if sp < needed {
+        return 4;
+    }
+    0
+}
+
+// Where routine k is entered from the stack pointer sp. Of one that is not linked, word 0 is read as the size, and not used.
 pub fn enter(seg: &[u8], facts: Facts, sp: usize, k: u16) -> Entry
     requires { ⌜ (Loaded (now seg)) × (Told (now seg) facts) ⌝ }
     ensures { λ e. ⌜ e ≡ entered (now (seg .entry)) sp k ⌝ }
@@ -127,12 +141,10 @@ pub fn enter(seg: &[u8], facts: Facts, sp: usize, k: u16) -> Entry
     }
     let least = facts.sex == 0;
     let e = operand::word_in(seg, least, facts.dict + k as usize) as usize;
-    if e == 0 {
-        return Entry::Not(8); // declared, not linked
-    }
     let size = operand::word_in(seg, least, e) as usize;
-    if sp < facts.floor + 5 + size {
-        return Entry::Not(4);
+    let fault = entry_fault(e, sp, facts.floor + 5 + size);
+    if fault != 0 {
+        return Entry::Not(fault);
     }
     Entry::To(sp - 5 - size, 2 * (e + 1))
 }
