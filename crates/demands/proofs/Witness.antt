@@ -44,11 +44,11 @@ ran-sound =
     (stays-sound store (loading 0 0 32) _ made-sound))))))
 
 pub witness : Witness
-unfolding segment unlinked declared linking calling store loaded opened ran openings full frame framed position other listOf swapByte swapAt turned every inside part splice wordBy ifThere fetched least word dict reloc pool count entry linked
-    datasize exitic start sexBytes headChecks routineChecks routinesFrom checks ruling judged opcode rowIn appendixB joined andThen operands lawful
-    allLawful decodedWith rowDecoded decode reached markAt resumes groundFor firstFault asks effect outcome judgedBy judge kindInRange inRange starting
-    isReady written settled step run stepsDone startOf cpuOk runOf countOf limitsOk slotOk placed apart sessionOk soundB refusing newOf loadOf lenOk
-    gapAt gapOf openOf turnOf closeOf
+unfolding segment unlinked declared linking calling store loaded opened ran openings full frame framed position other listOf swapByte swapAt turned
+    every inside part splice wordBy ifThere fetched least word dict reloc pool count entry linked datasize exitic start sexBytes headChecks
+    routineChecks routinesFrom checks ruling judged opcode rowIn appendixB joined andThen operands lawful allLawful decodedWith rowDecoded decode
+    reached markAt resumes groundFor firstFault asks effect outcome judgedBy judge kindInRange inRange starting isReady written settled step run
+    stepsDone startOf cpuOk runOf countOf limitsOk slotOk placed apart sessionOk soundB refusing newOf loadOf lenOk gapAt gapOf openOf turnOf closeOf
 witness =
     record {
       sound = ran-sound;

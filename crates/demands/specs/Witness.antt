@@ -1,6 +1,6 @@
 -- The promises are not empty: the entries lead from nothing to a sound bench with a ready, a finished and a faulted session, and each of them
--- takes a turn; a segment with a routine that is not linked loads; and refusals 1, 6 and 11 to 17 are each given to somebody. So no runner that refuses everything, and no loader that takes
--- everything, meets the contracts.
+-- takes a turn; a segment with a routine that is not linked loads; and refusals 1, 6 and 11 to 17 are each given to somebody. So no runner that
+-- refuses everything, and no loader that takes everything, meets the contracts.
 -- Proved as `witness` in proofs/Witness, by computing. Above: Demands. Below: bench's entries.
 use mathlib.Core.Path.{_≡_}
 use mathlib.Core.Bool.{true}

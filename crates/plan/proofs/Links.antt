@@ -98,7 +98,7 @@ module _ (s : List ℕ) (f : Facts) (t : Told s f) where
   unfolding word
   word-told w = ap (λ (b : Bool). wordBy b s w) sex-told
 
-  pub entry-told : (k e : ℕ) → e ≡ wordBy (eqb (f .sex) 0) s (f .dict + k) → e ≡ entry s k
+  entry-told : (k e : ℕ) → e ≡ wordBy (eqb (f .sex) 0) s (f .dict + k) → e ≡ entry s k
   unfolding entry
   entry-told k e a = a ∙ (word-told (f .dict + k) ∙ ap (λ (d : ℕ). word s (d + k)) (t .dicts))
 

@@ -1,5 +1,5 @@
 -- `checks::judge_routine` meets its contract. Assumes nothing.
-use mathlib.Core.Path.{sym, ap, _∙_}
+use mathlib.Core.Path.{ap, _∙_}
 use mathlib.Core.Bool.{_&&_, not}
 use lib.Dec.{eqb}
 use borrow.Author.Needs.{needs}

@@ -1,6 +1,5 @@
 -- `plan_calls::entry_fault` is its definition. Assumes nothing.
 use borrow.Author.Tests.{lt-ltb, le-ltb, eq-eqb, ne-eqb}
-use borrow.Author.Needs.{needs}
 use Rattle.plan.specs.Mirror.{entryFault}
 use Rattle.plan_calls.proofs.entry_fault.Statement.{statement}
 use Rattle.plan_calls.proofs.entry_fault.Tie as tie
