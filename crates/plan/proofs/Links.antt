@@ -7,7 +7,7 @@ use mathlib.Core.Bool.{Bool, true, false, _&&_, not, cond}
 use Prim.Native.Nat.{ℕ, suc, _+_, _-_, _*_, _<_, _≤_}
 use native.Mathlib.Omega.{arith}
 use native.Mathlib.Nat.{eq-or-lt-of-le}
-use borrow.Author.Tests.{le-leb, leb-true, ltb-false, eq-eqb, ne-eqb, eqb-true, eqb-false}
+use borrow.Author.Tests.{le-leb, le-ltb, leb-true, ltb-false, eq-eqb, ne-eqb, eqb-true, eqb-false}
 use lib.Dec.{ltb, leb, eqb}
 use lib.ListN.{length, getD}
 use Rattle.basis.specs.Bools.{inside}
@@ -116,13 +116,12 @@ module _ (s : List ℕ) (f : Facts) (t : Told s f) where
   unfolding datasize
   size-told k e z a some b = b ∙ (word-told e ∙ rw some (ap (word s) a))
 
-  -- with the entry and the size that were read, and the number of the fault
-  pub entered-told : (sp k e z : ℕ) → e ≡ wordBy (eqb (f .sex) 0) s (f .dict + k) → z ≡ wordBy (eqb (f .sex) 0) s e
-      → entered s sp k
-      ≡ cond (ltb k 1) (Not 8)
-      (cond (ltb (f .count) k) (Not 8) (byFault (entryFault e sp (f .floor + 5 + z)) (To (sp - 5 - z) (2 * (e + 1)))))
+  -- a routine that the segment has, with the entry and the size that were read, and the number of the fault
+  pub entered-told : (sp k e z : ℕ) → 1 ≤ k → k ≤ f .count → e ≡ wordBy (eqb (f .sex) 0) s (f .dict + k) → z ≡ wordBy (eqb (f .sex) 0) s e
+      → entered s sp k ≡ byFault (entryFault e sp (f .floor + 5 + z)) (To (sp - 5 - z) (2 * (e + 1)))
   unfolding entered start entryFault
-  entered-told sp k e z a b = rw (t .counts) (ap (λ (x : Entry). cond (ltb k 1) (Not 8) (cond (ltb (count s) k) (Not 8) x)) (go (eqb e 0) refl))
+  entered-told sp k e z low high a b =
+      rw (le-ltb k 1 low, le-ltb (count s) k (omega (arith, high, t .counts))) (go (eqb e 0) refl)
     where
       go : (zero : Bool) → eqb e 0 ≡ zero
           → cond (not (linked s k)) (Not 8) (cond (ltb sp (floor s + 5 + datasize s k)) (Not 4) (To (sp - (5 + datasize s k)) (start s k)))

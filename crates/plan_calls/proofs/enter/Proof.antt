@@ -24,6 +24,7 @@ word-in-requires-2 c κs =
     let inside = entry-within (a .seg .now) (a .facts) (start .pre .1) (start .pre .0) (a .k) _ (counted .before .before .if1 .left) (counted .if2 .left) (c .word-in .ensures) in
     omega (arith, inside)
 
+-- the places, from the last one back: the fault's number, the size, the test of k against n, start
 returns-3 : tie.Need-returns-3
 returns-3 c =
     let judged = c .before in
@@ -31,27 +32,18 @@ returns-3 c =
     let counted = sized .before .before .before .before in
     let start = counted .before .before .before .before in
     let a = start .args in
-    let e = sized .before .word-in in
-    let z = sized .word-in2 in
     simp (
-      entered-told (a .seg .now) (a .facts) (start .pre .1) (a .sp) (a .k) (e .result) (z .result) (e .ensures) (z .ensures),
+      entered-told (a .seg .now) (a .facts) (start .pre .1) (a .sp) (a .k) _ _ (counted .before .before .if1 .left) (counted .if2 .left)
+          (sized .before .word-in .ensures) (sized .word-in2 .ensures),
       ← judged .entry-fault .ensures,
       ne-eqb _ _ (c .if3 .taken),
-      le-ltb _ _ (counted .if2 .left),
-      le-ltb _ _ (counted .before .before .if1 .left),
     )
 
 sub-t10 : tie.Need-sub-t10
-sub-t10 c =
-    let judged = c .before in
-    let fits = no-fault _ _ _ (sym (judged .entry-fault .ensures) ∙ c .if3 .left) in
-    omega (arith, fits)
+sub-t10 c = omega (arith, no-fault _ _ _ (sym (c .before .entry-fault .ensures) ∙ c .if3 .left))
 
 sub-t12 : tie.Need-sub-t12
-sub-t12 c =
-    let judged = c .before in
-    let fits = no-fault _ _ _ (sym (judged .entry-fault .ensures) ∙ c .if3 .left) in
-    omega (arith, fits)
+sub-t12 c = omega (arith, no-fault _ _ _ (sym (c .before .entry-fault .ensures) ∙ c .if3 .left))
 
 returns-4 : tie.Need-returns-4
 returns-4 c =
@@ -60,14 +52,11 @@ returns-4 c =
     let counted = sized .before .before .before .before in
     let start = counted .before .before .before .before in
     let a = start .args in
-    let e = sized .before .word-in in
-    let z = sized .word-in2 in
     simp (
-      entered-told (a .seg .now) (a .facts) (start .pre .1) (a .sp) (a .k) (e .result) (z .result) (e .ensures) (z .ensures),
+      entered-told (a .seg .now) (a .facts) (start .pre .1) (a .sp) (a .k) _ _ (counted .before .before .if1 .left) (counted .if2 .left)
+          (sized .before .word-in .ensures) (sized .word-in2 .ensures),
       ← judged .entry-fault .ensures,
       eq-eqb _ _ (c .if3 .left),
-      le-ltb _ _ (counted .if2 .left),
-      le-ltb _ _ (counted .before .before .if1 .left),
     )
 
 pub enter-spec : {M : Type 1} → statement M
