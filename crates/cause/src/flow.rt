@@ -11,14 +11,10 @@ use crate::why::Why;
 use instruction::Target;
 use plan::Link;
 ghost use mathlib.Core.Path.{_≡_};
-ghost use mathlib.Core.Bool.{cond, _&&_};
 ghost use Prim.Native.Nat.{_<_};
-ghost use lib.Dec.{leb};
 ghost use lib.ListN.{length};
-ghost use Rattle.segment.specs.Head.{linked};
 ghost use Rattle.pmachine.specs.Step.{broken, follow, reached};
-ghost use Rattle.cause.specs.Answer.{linkOf, whoseOf};
-ghost use Rattle.cause.specs.Fault.{faultOf};
+ghost use Rattle.cause.specs.Answer.{linkOf, whoseOf, callWhy};
 
 // The record that links lead to; or a bad link: of how many, how many were left with it, the word where it stands, what it holds.
 pub enum Reached {
@@ -103,7 +99,7 @@ pub fn call(seg: &[u8], region: &[u16], n: Numbers, whose: Whose, k: u16) -> Why
 
 // 8: the segment has the routine, and it is linked.
 fn callable(seg: &[u8], n: Numbers, k: u16) -> Why
-    ensures { λ r. ⌜ faultOf r ≡ cond ((leb 1 k && leb k (n .count)) && linked (now (seg .entry)) k) 0 8 ⌝ }
+    ensures { λ r. ⌜ r ≡ callWhy (n .count) (now (seg .entry)) k ⌝ }
 {
     if is_outside(k as usize, 1, n.count as usize) {
         return Why::Flow(Flow::Routine(k));

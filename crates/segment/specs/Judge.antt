@@ -20,8 +20,8 @@ headChecks s =
     ∷ check 5 0 (dictOk s)
     ∷ []
 
--- "then 6, 7, 8 for routine 1". Request 1: "An entry of zero is lawful for every routine but routine 1; it has .. no checks 6 to 8. Routine 1 at
--- zero still gets 6."
+-- "then 6, 7, 8 for routine 1". Request 1: "An entry of zero is lawful for every routine but routine 1; it has .. no checks 6 to 8." "Routine
+-- 1 at zero still gets 6."
 unfoldable pub routineChecks : List ℕ → ℕ → List Check
 routineChecks s k =
     cond (linked s k || eqb k 1) (check 6 k (entryOk s k) ∷ check 7 k (dataOk s k) ∷ check 8 k (exitOk s k) ∷ []) []

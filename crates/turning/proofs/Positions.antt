@@ -86,17 +86,16 @@ frames-more s out k {e} h q l =
     (swap-join (framed s k) (inside (e - 1) (e + 1)) s out
     ∙ swap-same (λ w. framed s k w || inside (e - 1) (e + 1) w) (framed s (suc k)) s out (λ w. rw (frame-inside e w l, q, add-one k, linked-some s (suc k) some)))
 
-pub frames-same : (s out : List ℕ) {t : List ℕ} (k : ℕ) {e : ℕ} → t ≡ swapAt (framed s k) s out → e ≡ entry s (k + 1) → e ≡ 0
-    → t ≡ swapAt (framed s (k + 1)) s out
-unfolding framed
-frames-same s out k h q z =
-    let none = linked-none s (suc k) (sym (rw (add-one k) at q) ∙ z) in
-    h ∙ rw (add-one k) (swap-same (framed s k) (framed s (suc k)) s out (λ w. rw none (sym (or-false (framed s k w)))))
-
 -- a routine that is not linked has no word positions
 pub unlinked-words : (s : List ℕ) (k w : ℕ) → entry s (suc k) ≡ 0 → framed s (suc k) w ≡ framed s k w
 unfolding framed
 unlinked-words s k w e = rw (linked-none s (suc k) e) (or-false (framed s k w))
+
+pub frames-same : (s out : List ℕ) {t : List ℕ} (k : ℕ) {e : ℕ} → t ≡ swapAt (framed s k) s out → e ≡ entry s (k + 1) → e ≡ 0
+    → t ≡ swapAt (framed s (k + 1)) s out
+frames-same s out k h q z =
+    let none = sym (rw (add-one k) at q) ∙ z in
+    h ∙ rw (add-one k) (swap-same (framed s k) (framed s (suc k)) s out (λ w. sym (unlinked-words s k w none)))
 
 -- the words of a linked routine k are among those of the first n; and what holds of each linked routine's words holds of all of them
 pub framed-has : (s : List ℕ) (w n k : ℕ) → 1 ≤ k → k ≤ n → linked s k ≡ true → frame (entry s k) w ≡ true → framed s n w ≡ true

@@ -1,7 +1,7 @@
 -- `cause::flow::callable` meets its contract. Assumes nothing.
 use native.Mathlib.Omega.{arith}
 use mathlib.Core.Path.{_≡_, sym, ap, _∙_}
-use mathlib.Core.Bool.{false, true, _&&_, and-false}
+use mathlib.Core.Bool.{false, true, _&&_}
 use borrow.Author.Needs.{needs}
 use borrow.Author.Tests.{not-true, not-false}
 use lib.Dec.{leb}
@@ -20,9 +20,11 @@ returns c =
 returns-2 : tie.Need-returns-2
 returns-2 c =
     let read = c .before .before in
-    let a = read .before .before .before .before .before .args in
+    let asked = read .before in
+    let a = asked .before .before .before .before .args in
     let is : read .routine-of .result .entry ≡ entry (a .seg .now) (a .k) = ap (λ (r : Routine). r .entry) (read .routine-of .ensures) in
-    rw (linked-none (a .seg .now) (a .k) (sym is ∙ c .if2 .taken)) (simp and-false)
+    let there : (leb 1 (a .k) && leb (a .k) (a .n .count)) ≡ true = not-false _ (sym (asked .before .is-outside .ensures) ∙ asked .if1 .left) in
+    rw (there, linked-none (a .seg .now) (a .k) (sym is ∙ c .if2 .taken))
 
 returns-3 : tie.Need-returns-3
 returns-3 c =
