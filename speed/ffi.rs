@@ -43,7 +43,7 @@ fn turn(mem: &mut [u16], seg: &[u8], regs: &mut [u64; 16], k: u64) -> u64 {
     match end {
         End::OutOfSteps => {}
         End::Finished => *kind = FINISHED,
-        End::Faulted(number) => (*kind, *fault, *place) = (FAULTED, u64::from(number), now.counter as u64),
+        End::Faulted { number, place: at } => (*kind, *fault, *place) = (FAULTED, u64::from(number), at as u64),
     }
     done
 }

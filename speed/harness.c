@@ -51,12 +51,17 @@ static void damaged(int it) {
         put(entry[k] - 1, 30); put(entry[k], any(4) ? any(8) : any(32768));
         if (any(8) == 0) put(dict + k, 0);
     }
+    /* bytes behind the dictionary, so that the segment's end cuts instructions */
+    uint32_t more = any(3) ? 0 : 2 * (1 + any(2));
+    for (uint32_t i = 0; i < more; i++) seg[w2++] = any(3) ? any_opcode() : any(256);
+    regs0[R_W2] = w2;
     uint32_t pool = any(3) ? 11 + any(w2 / 2 - 11) : 0, floor = 6 + regs0[R_G];
     put(7, pool); regs0[R_POOL] = pool;
     if (any(3) == 0) regs0[R_SP] = floor + any(12);
     if (any(3) == 0) regs0[R_SP] = L - any(4);
     if (any(4) == 0) regs0[R_M] = 1 + any(L - 5);
     if (any(4) == 0) regs0[R_IPC] = 22 + any(w2 - 21);
+    if (more && any(2)) regs0[R_IPC] = w2 - 1 - any(4);
     if (any(8) == 0) regs0[R_PROC] = 1 + any(routines);
     for (uint32_t i = 0; i < 12; i++) {
         if (any(2)) mem0[BASE + 1 + i] = any_word();
@@ -68,7 +73,7 @@ static int same(int i, uint64_t done, const char *on, int it) {
     if (done == want_done && !memcmp(mem, want_mem, sizeof mem) && !memcmp(regs, want, sizeof regs)) return 1;
     printf("%s differs from %s on %s %d: done %lu/%lu, fault %lu/%lu, place %lu/%lu, first byte %d\n", IMPL[i].name, IMPL[0].name, on, it,
         (unsigned long)done, (unsigned long)want_done, (unsigned long)regs[R_FAULT], (unsigned long)want[R_FAULT],
-        (unsigned long)regs[R_PLACE], (unsigned long)want[R_PLACE], seg[want[R_PLACE]]);
+        (unsigned long)regs[R_PLACE], (unsigned long)want[R_PLACE], seg[want[R_IPC]]);
     return 0;
 }
 static void keep(uint64_t done) { want_done = done; memcpy(want_mem, mem, sizeof mem); memcpy(want, regs, sizeof regs); }
@@ -91,7 +96,7 @@ static int compare_programs(void) {
 }
 /* The reference goes step by step, to see which first bytes were run without a fault; the others go in one turn. An earlier proved turn is not among
    them: a request may have changed what it answers here. */
-static int compare_damaged(long *faults, long *stepped) {
+static int compare_damaged(long *faults, long *stepped, long *cut) {
     int good = 1;
     for (int it = 0; it < DAMAGED && good; it++) {
         damaged(it);
@@ -104,6 +109,7 @@ static int compare_damaged(long *faults, long *stepped) {
         }
         keep(done);
         faults[regs[R_FAULT]]++;
+        *cut += regs[R_FAULT] == 1 && regs[R_PLACE] != regs[R_IPC];
         for (int i = 0; i < NI && good; i++) {
             if (!strcmp(IMPL[i].name, "before")) continue;
             fresh();
@@ -114,11 +120,11 @@ static int compare_damaged(long *faults, long *stepped) {
     return good;
 }
 static int compare(void) {
-    static long faults[11], stepped[256];
+    static long faults[11], stepped[256], cut;
     int reached = 0, good = compare_programs();
-    good = compare_damaged(faults, stepped) && good;
+    good = compare_damaged(faults, stepped, &cut) && cut > 0 && good;
     for (int op = 0; op < 256; op++) reached += stepped[op] > 0;
-    printf("agree: %s, on %d programs and %d damaged segments; %d first bytes run without a fault; faults:", good ? "yes" : "NO", PROGRAMS, DAMAGED, reached);
+    printf("agree: %s, on %d programs and %d damaged segments; %d first bytes run without a fault, %ld cut off; faults:", good ? "yes" : "NO", PROGRAMS, DAMAGED, reached, cut);
     for (int f = 1; f < 11; f++) printf(" %d:%ld", f, faults[f]);
     puts("");
     return good;

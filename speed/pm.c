@@ -14,7 +14,7 @@ static inline uint32_t seg_word(const uint8_t *seg, uint32_t k, int most_first) 
 /* Every check below leaves the step by FAULT; their order in a case is the documented order of faults. */
 #define FAULT(n) do { fault = (n); goto faulted; } while (0)
 
-/* Operands: UB, B and W, fetched at `at`, which moves on. */
+/* Operands: UB, B and W, fetched at `at`, which moves on, but stays on a byte that is not there. */
 #define UB(v) do { if (at >= w2) FAULT(1); v = seg[at++]; } while (0)
 #define BIG(v) do { UB(v); if (v & 128) { uint32_t low; UB(low); v = (v & 127) << 8 | low; } } while (0)
 #define WORD(v) do { uint32_t high; UB(v); UB(high); v |= high << 8; } while (0)
@@ -154,7 +154,8 @@ finished:
     r[R_KIND] = FINISHED;
     goto out;
 faulted:
-    r[R_KIND] = FAULTED; r[R_FAULT] = fault; r[R_PLACE] = ipc;
+    /* the place is the instruction's first byte, but of fault 1 the byte that was not there: chosen here, so that no other step pays for it */
+    r[R_KIND] = FAULTED; r[R_FAULT] = fault; r[R_PLACE] = fault == 1 ? at : ipc;
 out:
     r[R_SP] = sp; r[R_M] = m; r[R_IPC] = ipc; r[R_PROC] = proc;
     return done;

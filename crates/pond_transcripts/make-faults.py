@@ -20,7 +20,10 @@ def segment(*routines):
 FAULTS = {
     '1-end': [(0, [0x05, 0x07])],                               # SLDC5 SLDC7, and nothing after them
     '1-cut': [(0, [0x9C, 0x9C, 0x81, 0x34])],                   # LDCI without its second byte
+    '1-links': [(0, [0x88, 200])],                              # LDA 200 without its B: 1 comes before 2
+    '1-return': [(0, [0x96])],                                  # RPU, whose B is a padding byte that says two bytes
     '2-byte': [(0, [0x9A])],                                    # LDE
+    '2-last': [(0, [0x9C, 0x9A])],                              # LDE as the segment's last byte
     '2-links': [(0, [0x89, 200, 1])],                           # LOD 200 1
     '3': [(0, [0x05, 0xA2])],                                   # SLDC5 ADI
     '4-push': [(0, [0x05, 0x8A, 0xFD])],                        # SLDC5, UJP to it

@@ -1,6 +1,7 @@
 //! What the cases written came to: steps by first byte and outcome, refusals
 //! by entry, damages; and what is missing of what document 01 makes possible.
 
+use crate::cut;
 use crate::generate::{
     can_go_well, possible_outcomes, possible_refusals, Outcome, BACK_TO_UNLINKED, FINISHED, GONE_ON,
     LINK_BEFORE_UNLINKED, UNLINKED, UNLINKED_WHEN_FULL,
@@ -41,6 +42,8 @@ pub struct AboutTo {
     full: bool,
     /// The routine number is that of an unlinked one.
     in_unlinked: bool,
+    /// What it is counted as if its bytes run out.
+    cut: u32,
 }
 
 /// Whether a number is that of an unlinked routine.
@@ -62,12 +65,14 @@ impl AboutTo {
             calls_unlinked: called.is_some_and(|call| is_unlinked(segment, call.value as u64)),
             full: session.sp < 6 + u64::from(segment.global_size()) + 5,
             in_unlinked: is_unlinked(segment, session.routine),
+            cut: cut::counted(segment, session.counter),
         }
     }
 
     /// What the step came to, by the session after it.
     pub fn outcome(&self, segment: &Segment, session: &Session) -> Outcome {
         let end = match came_to(session.kind) {
+            1 => self.cut,
             8 if self.calls_unlinked && self.full => UNLINKED_WHEN_FULL,
             8 if self.calls_unlinked => UNLINKED,
             9 if self.calls_unlinked => LINK_BEFORE_UNLINKED,
@@ -233,6 +238,7 @@ fn end_name(end: u32) -> String {
         UNLINKED_WHEN_FULL => "8 unlinked and full".to_string(),
         LINK_BEFORE_UNLINKED => "9 before unlinked".to_string(),
         BACK_TO_UNLINKED => "ok back to unlinked".to_string(),
+        cut::CUT.. => cut::name(end),
         fault => format!("{fault}"),
     }
 }

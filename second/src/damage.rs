@@ -12,7 +12,7 @@ use crate::world::World;
 const WIDE: u64 = 1 << 32;
 
 /// The damages, in the order of 01's sentence.
-pub const DAMAGES: [&str; 41] = [
+pub const DAMAGES: [&str; 42] = [
     "S just at a limit", "S beyond 32,768", "S beyond N", "N beyond 1,048,576",
     "N not the memory's words", "memory one word short", "memory one word long",
     "slot range to the store's end", "slot range beyond the store", "slot start far beyond",
@@ -22,7 +22,7 @@ pub const DAMAGES: [&str; 41] = [
     "slot named is 16 or more", "slot named not loaded", "L below 16", "L at 32,768",
     "L above 32,768", "L below 6+G", "SP at a limit", "SP outside", "M at a limit", "M outside",
     "counter at a limit", "counter outside", "routine at a limit", "routine outside",
-    "fault and place at a limit", "fault outside 1..10", "place outside 22..2W",
+    "fault and place at a limit", "fault 1 as recorded before", "fault outside 1..10", "place outside 22..2W",
 ];
 
 /// Those that need a memory of a million words, so that they are used rarely.
@@ -56,6 +56,7 @@ pub fn damage(rng: &mut Rng, world: &mut World, kind: &str) -> Option<bool> {
         .or_else(|| damage_region(rng, world, kind, &target))
         .or_else(|| damage_length(rng, world, kind, &target))
         .or_else(|| damage_session(rng, world, kind, &target))
+        .or_else(|| damage_fault(rng, world, kind, &target))
 }
 
 fn target(rng: &mut Rng, world: &World) -> Option<Target> {
@@ -283,7 +284,7 @@ fn damage_length(rng: &mut Rng, world: &mut World, kind: &str, target: &Target) 
     Some(false)
 }
 
-/// The slot named, the registers and the kind.
+/// The slot named and the registers.
 fn damage_session(rng: &mut Rng, world: &mut World, kind: &str, target: &Target) -> Option<bool> {
     let (floor, length, count) = (target.floor, target.record.length, target.count);
     let bytes = 2 * target.words;
@@ -308,9 +309,25 @@ fn damage_session(rng: &mut Rng, world: &mut World, kind: &str, target: &Target)
         "routine outside" => {
             session.routine = rng.pick(&[0, count + 1, 256, WIDE + 1, u64::MAX], 0);
         }
+        _ => return None,
+    }
+    Some(kind.ends_with("at a limit"))
+}
+
+/// Fault and place of a faulted session.
+fn damage_fault(rng: &mut Rng, world: &mut World, kind: &str, target: &Target) -> Option<bool> {
+    let bytes = 2 * target.words;
+    let session = &mut world.bench.records.get_mut(target.number)?.session;
+    match kind {
         "fault and place at a limit" => {
             let (number, place) = (rng.pick(&[1, 10], 1), rng.pick(&[22, bytes], 22));
             session.kind = Kind::Faulted { number, place };
+        }
+        "fault 1 as recorded before" => {
+            // at its instruction, or anywhere else that a place may be
+            let counter = session.counter;
+            let place = rng.pick(&[counter, counter, 22, (counter + 1).min(bytes)], counter);
+            session.kind = Kind::Faulted { number: 1, place };
         }
         "fault outside 1..10" => {
             session.kind = Kind::Faulted { number: rng.pick(&[0, 11, 255], 0), place: 22 };
@@ -321,5 +338,5 @@ fn damage_session(rng: &mut Rng, world: &mut World, kind: &str, target: &Target)
         }
         _ => return None,
     }
-    Some(kind.ends_with("at a limit"))
+    Some(!kind.contains("outside"))
 }

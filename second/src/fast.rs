@@ -33,7 +33,7 @@ pub struct Registers {
 pub enum End {
     OutOfSteps,
     Finished,
-    Faulted(Fault),
+    Faulted { number: Fault, place: usize },
 }
 
 /// The same as `machine::turn`.
@@ -75,16 +75,15 @@ pub fn turn(
         routine: session.routine as usize,
     };
     let (done, end) = run(&code, shared, region, &mut registers, k);
-    let place = registers.counter as u64;
     *session = Session {
         sp: registers.sp as u64,
         m: registers.m as u64,
-        counter: place,
+        counter: registers.counter as u64,
         routine: registers.routine as u64,
         kind: match end {
             End::OutOfSteps => Kind::Ready,
             End::Finished => Kind::Finished,
-            End::Faulted(number) => Kind::Faulted { number, place },
+            End::Faulted { number, place } => Kind::Faulted { number, place: place as u64 },
         },
     };
     done
@@ -98,7 +97,7 @@ fn segment_word(code: &Code, number: usize) -> usize {
 
 /// At most k steps of a ready, sound session; the steps done, and how it ended.
 /// The registers are those after the last step that went well, so a fault's
-/// place is the counter.
+/// place is the counter; but for fault 1 it is the byte that was missing.
 #[allow(unused_assignments)] // a return reads its operand and then goes elsewhere
 pub fn run(
     segment: &Code,
@@ -127,9 +126,11 @@ pub fn run(
 
         macro_rules! fault {
             ($number:expr) => {
-                break End::Faulted($number)
+                break End::Faulted { number: $number, place: counter }
             };
         }
+        // 1 "carries [...] the offset of the first byte it could not fetch",
+        // which is at hand where the fetch fails: no other step pays for it
         macro_rules! byte {
             () => {
                 match code.get(next) {
@@ -137,7 +138,7 @@ pub fn run(
                         next += 1;
                         byte as usize
                     }
-                    None => fault!(1),
+                    None => break End::Faulted { number: machine::OUTSIDE, place: next },
                 }
             };
         }

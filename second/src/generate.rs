@@ -5,6 +5,7 @@
 //! steps of them, `set` the cases that are written.
 
 use crate::bench::{self, Bench, Record, Slot};
+use crate::cut::possible_cuts;
 use crate::damage::{damage, DAMAGES, LARGE};
 use crate::machine::{self, Form, Kind, Op, Session};
 use crate::segment::{Segment, Sex};
@@ -954,7 +955,8 @@ pub fn can_go_well(first: u8) -> bool {
     possible_faults(first) != [2]
 }
 
-/// What one step came to: a fault number, 0 for gone on, 11 for finished.
+/// What one step came to: a fault number, 0 for gone on, 11 for finished.  From
+/// 16 on it is fault 1 of a cut instruction (`cut`).
 pub const GONE_ON: u32 = 0;
 pub const FINISHED: u32 = 11;
 // Told apart from the faults 8 and 9 and from gone on, since unlinked routines
@@ -979,7 +981,9 @@ pub fn possible_outcomes() -> Vec<Outcome> {
             possible.extend([(Some(first), FINISHED), (Some(first), BACK_TO_UNLINKED)]);
         }
         let faults = possible_faults(first);
-        possible.extend(faults.iter().map(|fault| (Some(first), *fault)));
+        // 1 by the bytes that are there
+        possible.extend(faults.iter().filter(|fault| **fault != 1).map(|fault| (Some(first), *fault)));
+        possible.extend(possible_cuts(first));
         if faults.contains(&8) {
             possible.extend([(Some(first), UNLINKED), (Some(first), UNLINKED_WHEN_FULL)]);
         }

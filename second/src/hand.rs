@@ -5,6 +5,7 @@
 //! made of; the lines are in `hand/`.
 
 mod benches;
+mod cut;
 mod instructions;
 mod marked;
 mod segments;
@@ -41,6 +42,7 @@ pub fn table() -> Vec<Hand> {
     benches::fill(&mut table);
     soundness::fill(&mut table);
     unlinked::fill(&mut table);
+    cut::fill(&mut table);
     table.cases
 }
 
@@ -178,12 +180,21 @@ pub fn hand_segment(pool: u16) -> Vec<u8> {
     bytes
 }
 
-/// The hand segment most byte first, written out apart from turning.
-fn hand_most_first() -> Vec<u8> {
-    let mut bytes = hand_segment(0);
-    for word in [0, 1, 6, 7, 8, 9, 10, 11, 12, 13, 14, 15, 16, 39, 40, 49, 50] {
+/// The words of the hand segment that are numbers: header, dictionary, and
+/// EXITIC and DATASIZE of the three routines.
+const HAND_WORDS: [usize; 17] = [0, 1, 6, 7, 8, 9, 10, 11, 12, 13, 14, 15, 16, 39, 40, 49, 50];
+
+/// The hand segment, or one made of it, most byte first, written out apart from
+/// turning.
+fn most_first(bytes: &mut [u8]) {
+    for word in HAND_WORDS {
         bytes.swap(2 * word, 2 * word + 1);
     }
+}
+
+fn hand_most_first() -> Vec<u8> {
+    let mut bytes = hand_segment(0);
+    most_first(&mut bytes);
     bytes
 }
 
@@ -228,6 +239,8 @@ fn at_record(world: &mut World, number: usize) -> &mut Record {
 const BASE: usize = 20;
 /// The rig's session and its k = 1.
 const STEP: Call = Call::Turn { session: 1, k: 1 };
+/// What becomes of it where the bytes of its segment, W = 64, ran out.
+const RAN_OUT: Kind = Kind::Faulted { number: 1, place: 128 };
 
 /// A step of session 1 of a bench with S = 4 (shared words 500 to 503), the
 /// hand segment (pool 56) in slot 3, at byte 2 of the store, and sessions 0 and
@@ -301,6 +314,13 @@ impl<'a> Rig<'a> {
         self
     }
 
+    /// The segment most byte first; to be asked for after its words are set.
+    fn most_first(mut self) -> Self {
+        most_first(&mut self.world.store[2..130]);
+        self.name += ", most byte first";
+        self
+    }
+
     /// A word of the region that the step writes.
     fn writes(mut self, at: usize, words: &[u16]) -> Self {
         self.written.extend((at..).zip(words.iter().copied()));
@@ -309,6 +329,11 @@ impl<'a> Rig<'a> {
 
     /// The session after the step; only it and the words written change.
     fn becomes(self, what: &str, session: Session) {
+        self.stepped(what, session).end();
+    }
+
+    /// The same, and more is asked.
+    fn stepped(self, what: &str, session: Session) -> Story<'a> {
         let Rig { table, name, world, written } = self;
         let counter = world.bench.records[1].session.counter;
         let name = if counter == 34 { name } else { format!("{name} at {counter}") };
@@ -320,7 +345,6 @@ impl<'a> Rig<'a> {
                 }
                 at_record(after, 1).session = session;
             })
-            .end();
     }
 
     /// "The place is the instruction's first byte. Only the session's kind
@@ -329,6 +353,13 @@ impl<'a> Rig<'a> {
         let mut session = *self.session();
         session.kind = Kind::Faulted { number, place: session.counter };
         self.becomes(&format!("fault {number}"), session);
+    }
+
+    /// Request 8 of 02: fault 1 carries "the offset of the first byte it could
+    /// not fetch", here 2W = 128.  The counter stays on the instruction.
+    fn runs_out(mut self) {
+        let session = Session { kind: RAN_OUT, ..*self.session() };
+        self.becomes("fault 1 at 128", session);
     }
 
     /// "With M = 1 the session finishes, and all registers and memory stay".

@@ -9,6 +9,7 @@
 pub mod bench;
 pub mod cases;
 pub mod coverage;
+pub mod cut;
 pub mod damage;
 pub mod explain;
 pub mod fast;

@@ -3,7 +3,7 @@
 //! changes nothing) and then put in force, so that a fault leaves all as it
 //! was: "Only the session's kind changes."
 
-use crate::segment::{Reader, Routine, Segment};
+use crate::segment::{Missing, Reader, Routine, Segment};
 
 /// "The three kinds of session are ready, finished and faulted (with fault
 /// number and place)."
@@ -49,6 +49,21 @@ pub const BAD_ROUTINE: Fault = 8;
 pub const BAD_LINK_OR_MARK: Fault = 9;
 /// "10 subrange check failed"
 pub const BAD_SUBRANGE: Fault = 10;
+
+/// A fault and its place.
+#[derive(Clone, Copy, Debug, PartialEq, Eq)]
+pub struct Faulting {
+    pub number: Fault,
+    pub place: u64,
+}
+
+/// Request 8 of 02: "The operand reader shall report the offset of the first
+/// byte it could not fetch, and fault 1 carries that as its place."
+impl From<Missing> for Faulting {
+    fn from(Missing(place): Missing) -> Faulting {
+        Faulting { number: OUTSIDE, place }
+    }
+}
 
 /// "Starting state: SP = L, record pointer M = 1, counter 2(e+1)", and
 /// opening "starts routine 1".
@@ -234,22 +249,24 @@ pub struct Decoded {
 
 /// "The first byte is judged for 1 and 2 before its operands are fetched. All
 /// operands are fetched before a DB is judged."  "A DB byte above 127 faults
-/// with 2."
-pub fn decode(segment: &Segment, counter: u64) -> Result<Decoded, Fault> {
+/// with 2."  Request 8 of 02 moves the place of 1 alone: "A first byte out of
+/// range gives the same place as before. All other faults keep theirs."
+pub fn decode(segment: &Segment, counter: u64) -> Result<Decoded, Faulting> {
+    let not_carried = Faulting { number: NOT_CARRIED, place: counter };
     let mut reader = Reader::at(segment, counter);
-    let first = reader.byte().ok_or(OUTSIDE)?;
-    let instruction = instruction(first).ok_or(NOT_CARRIED)?;
-    let (links, value) = operands(&mut reader, &instruction).ok_or(OUTSIDE)?;
+    let first = reader.byte()?;
+    let instruction = instruction(first).ok_or(not_carried)?;
+    let (links, value) = operands(&mut reader, &instruction)?;
     if links > 127 {
-        return Err(NOT_CARRIED);
+        return Err(not_carried);
     }
     Ok(Decoded { instruction, links, value, next: reader.place })
 }
 
 /// The operands in the order of 000's entries, as (DB, the other one).
-fn operands(reader: &mut Reader, instruction: &Instruction) -> Option<(u32, i64)> {
+fn operands(reader: &mut Reader, instruction: &Instruction) -> Result<(u32, i64), Missing> {
     let links = instruction.links;
-    Some(match instruction.form {
+    Ok(match instruction.form {
         Form::Nothing => (links, instruction.value),
         Form::Ub => (links, i64::from(reader.ub()?)),
         Form::Sb => (links, i64::from(reader.sb()?)),
@@ -645,32 +662,38 @@ impl View<'_> {
             Op::Return => self.give_back(decoded),
         }
     }
-}
 
-/// The step worked out, with the faults in 01's order of checks: 1, 2 (in
-/// `decode`), 3, then 9, 8, 5, 6, 7, 10 (in `meaning`), then 4.
-pub fn transition(view: &View) -> Result<Transition, Fault> {
-    let decoded = decode(view.segment, view.session.counter)?;
-    // "The stack occupies SP..L-1".
-    let on_stack = view.length() - reckon(view.session.sp);
-    if on_stack < i64::from(decoded.instruction.taken) {
-        return Err(TOO_FEW_WORDS);
-    }
-    let transition = view.meaning(&decoded)?;
-    if let Transition::Go(change) = &transition {
-        if change.sp < view.floor() {
-            return Err(STACK_FULL);
+    /// An instruction whose bytes were all fetched, with the faults left in
+    /// 01's order of checks: 3, then 9, 8, 5, 6, 7, 10 (in `meaning`), then 4.
+    fn judged(&self, decoded: &Decoded) -> Result<Transition, Fault> {
+        // "The stack occupies SP..L-1".
+        let on_stack = self.length() - reckon(self.session.sp);
+        if on_stack < i64::from(decoded.instruction.taken) {
+            return Err(TOO_FEW_WORDS);
         }
+        let transition = self.meaning(decoded)?;
+        if let Transition::Go(change) = &transition {
+            if change.sp < self.floor() {
+                return Err(STACK_FULL);
+            }
+        }
+        Ok(transition)
     }
-    Ok(transition)
 }
 
-/// One step of a ready session.  On a fault "the place is the instruction's
-/// first byte. Only the session's kind changes."
+/// The step worked out: 1 and 2 with the places that `decode` gives them, and
+/// for the other faults "the place is the instruction's first byte."
+pub fn transition(view: &View) -> Result<Transition, Faulting> {
+    let decoded = decode(view.segment, view.session.counter)?;
+    view.judged(&decoded).map_err(|number| Faulting { number, place: view.session.counter })
+}
+
+/// One step of a ready session.  On a fault "only the session's kind changes":
+/// the counter stays on the instruction, also where fault 1 has another place.
 pub fn step(segment: &Segment, shared: &[u16], region: &mut [u16], session: &mut Session) {
     let view = View { segment, shared, region, session: *session };
     match transition(&view) {
-        Err(number) => session.kind = Kind::Faulted { number, place: session.counter },
+        Err(Faulting { number, place }) => session.kind = Kind::Faulted { number, place },
         Ok(Transition::Finish) => session.kind = Kind::Finished,
         Ok(Transition::Go(change)) => {
             for (address, word) in change.writes {

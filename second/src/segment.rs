@@ -254,9 +254,15 @@ pub fn turn_over(bytes: &[u8], output: &mut [u8]) -> Result<(), Refusal> {
     Ok(())
 }
 
+/// Request 8 of 02: "The operand reader shall report the offset of the first
+/// byte it could not fetch".
+#[derive(Clone, Copy, Debug, PartialEq, Eq)]
+pub struct Missing(pub u64);
+
 /// "The reader is a bounded view of one segment with a reading place, so that
-/// no caller adds offsets by hand."  `None` from any of its functions means
-/// "an instruction byte outside 22..2W-1", which is fault 1.
+/// no caller adds offsets by hand."  `Missing` from any of its functions means
+/// "an instruction byte outside 22..2W-1", which is fault 1; the reading place
+/// then is that byte's.
 #[derive(Clone, Copy, Debug, PartialEq, Eq)]
 pub struct Reader<'a> {
     pub bytes: &'a [u8],
@@ -269,30 +275,32 @@ impl<'a> Reader<'a> {
     }
 
     /// One byte of 22..2W-1, and on to the next.
-    pub fn byte(&mut self) -> Option<u8> {
+    pub fn byte(&mut self) -> Result<u8, Missing> {
+        let missing = Missing(self.place);
         if self.place < u64::from(Segment::FIRST_CODE_BYTE) {
-            return None;
+            return Err(missing);
         }
-        let byte = *self.bytes.get(usize::try_from(self.place).ok()?)?;
+        let at = usize::try_from(self.place).map_err(|_| missing)?;
+        let byte = *self.bytes.get(at).ok_or(missing)?;
         self.place += 1;
-        Some(byte)
+        Ok(byte)
     }
 
     /// 000: "UB: Represents a positive integer in the range 0 through 255."
-    pub fn ub(&mut self) -> Option<u32> {
+    pub fn ub(&mut self) -> Result<u32, Missing> {
         self.byte().map(u32::from)
     }
 
     /// 000: "SB: Represents a two's complement 8-bit integer in the range -128
     /// through 127."
-    pub fn sb(&mut self) -> Option<i32> {
+    pub fn sb(&mut self) -> Result<i32, Missing> {
         self.byte().map(|byte| i32::from(byte as i8))
     }
 
     /// 000: "DB: Represents a positive integer in the range 0 through 127."
     /// Here the byte as it stands, 0 to 255: "All operands are fetched before
     /// a DB is judged."
-    pub fn db(&mut self) -> Option<u32> {
+    pub fn db(&mut self) -> Result<u32, Missing> {
         self.byte().map(u32::from)
     }
 
@@ -301,21 +309,21 @@ impl<'a> Reader<'a> {
     /// the first byte is 1, then bit 7 should be cleared; the first byte is
     /// the high-order byte of a 16-bit word, and the following byte is the
     /// low-order byte of that word."
-    pub fn b(&mut self) -> Option<u32> {
+    pub fn b(&mut self) -> Result<u32, Missing> {
         let first = self.byte()?;
         if first < 128 {
-            return Some(u32::from(first));
+            return Ok(u32::from(first));
         }
         let low = self.byte()?;
-        Some(u32::from(u16::from_be_bytes([first - 128, low])))
+        Ok(u32::from(u16::from_be_bytes([first - 128, low])))
     }
 
     /// 000: "W: a 16-bit two's complement value [...].  The word is always
     /// least-significant-byte-first."  01: "Instruction operands are never
     /// swapped".
-    pub fn w(&mut self) -> Option<i32> {
+    pub fn w(&mut self) -> Result<i32, Missing> {
         let low = self.byte()?;
         let high = self.byte()?;
-        Some(i32::from(i16::from_le_bytes([low, high])))
+        Ok(i32::from(i16::from_le_bytes([low, high])))
     }
 }

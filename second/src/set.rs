@@ -4,6 +4,7 @@
 //! stand between them.
 
 use crate::cases::Writer;
+use crate::cut;
 use crate::damage::{damage, DAMAGES, LARGE};
 use crate::generate::{
     self, beside_a_limit, call, loading_case, possible_outcomes, run_case, sequence_case,
@@ -33,8 +34,10 @@ fn drawn(outcome: Outcome) -> usize {
         // calls of unlinked routines worked by hand count too
         (_, UNLINKED) => 3 * WANTED,
         (_, UNLINKED_WHEN_FULL | LINK_BEFORE_UNLINKED | BACK_TO_UNLINKED) => 2 * WANTED,
+        // and so do cut instructions
+        (_, cut::CUT..) => WANTED + 5,
         (Some(128..), GONE_ON | FINISHED | 6 | 7 | 9 | 10) => 2 * WANTED,
-        _ => WANTED + 4,
+        _ => WANTED,
     }
 }
 
@@ -66,12 +69,7 @@ impl<'a, Q: Write, A: Write> Set<'a, Q, A> {
         for _ in 0..10 {
             self.crowd(10)?;
         }
-        self.writer.remark("benches that load, open and run segments with unlinked routines")?;
-        for _ in 0..40 {
-            self.unlinked_bench()?;
-        }
-        self.writer.remark("benches sound, and damaged in one field")?;
-        self.every_damage(6)?;
+        self.benches()?;
         self.writer.remark("runs")?;
         for _ in 0..100 {
             self.run()?;
@@ -89,6 +87,20 @@ impl<'a, Q: Write, A: Write> Set<'a, Q, A> {
         self.products()
     }
 
+    /// Benches of three sorts.
+    fn benches(&mut self) -> io::Result<()> {
+        self.writer.remark("benches that load, open and run segments with unlinked routines")?;
+        for _ in 0..40 {
+            self.unlinked_bench()?;
+        }
+        self.writer.remark("benches that run into the segment's end, some with records of before")?;
+        for _ in 0..40 {
+            self.cut_bench()?;
+        }
+        self.writer.remark("benches sound, and damaged in one field")?;
+        self.every_damage(6)
+    }
+
     /// Fresh cases of all sorts, so many.
     pub fn fresh(&mut self, count: u64) -> io::Result<()> {
         self.most = count;
@@ -99,8 +111,9 @@ impl<'a, Q: Write, A: Write> Set<'a, Q, A> {
                 25 => self.crowd(10)?,
                 26 | 27 => self.unlinked_bench()?,
                 28 => self.large_segment()?,
-                29..=43 => self.some_damages(8)?,
-                44..=63 => self.run()?,
+                29 | 30 => self.cut_bench()?,
+                31..=44 => self.some_damages(8)?,
+                45..=63 => self.run()?,
                 64..=75 => self.loading()?,
                 76..=97 => self.sequence()?,
                 _ => self.new_bench()?,
@@ -148,15 +161,14 @@ impl<'a, Q: Write, A: Write> Set<'a, Q, A> {
                 possible_outcomes().into_iter().filter(|(byte, _)| *byte == first).collect();
             for _ in 0..200_000 {
                 let coverage = &self.writer.coverage;
-                if hoped.iter().all(|outcome| coverage.seen(*outcome) >= drawn(*outcome)) {
-                    break;
-                }
+                let lacking = hoped.iter().find(|outcome| coverage.seen(**outcome) < drawn(**outcome));
+                let Some(lacking) = lacking else { break };
                 if used >= SERIES || fruitless > 60 {
                     place = base(&mut self.rng);
                     (used, fruitless) = (0, 0);
                 }
                 let now = if used == 0 { &place.world } else { self.writer.world() };
-                match draw(&mut self.rng, &place, now, first) {
+                match draw(&mut self.rng, &place, now, *lacking) {
                     Some((next, outcome)) if self.writer.coverage.seen(outcome) < drawn(outcome) => {
                         used += self.step(&place, next)?;
                     }
@@ -171,8 +183,11 @@ impl<'a, Q: Write, A: Write> Set<'a, Q, A> {
     fn some_steps(&mut self, many: usize) -> io::Result<()> {
         let place = base(&mut self.rng);
         let possible = possible_outcomes();
-        let of_unlinked: Vec<Outcome> =
-            possible.iter().copied().filter(|(_, end)| *end >= UNLINKED).collect();
+        let of_unlinked: Vec<Outcome> = possible
+            .iter()
+            .copied()
+            .filter(|(_, end)| (UNLINKED..=BACK_TO_UNLINKED).contains(end))
+            .collect();
         let mut used = 0;
         while used < many && !self.full() {
             let hoped_for = if self.rng.chance(1, 12) { &of_unlinked } else { &possible };
@@ -180,7 +195,7 @@ impl<'a, Q: Write, A: Write> Set<'a, Q, A> {
             let mut chosen = None;
             for _ in 0..12 {
                 let now = if used == 0 { &place.world } else { self.writer.world() };
-                let drawn = draw(&mut self.rng, &place, now, hoped.0);
+                let drawn = draw(&mut self.rng, &place, now, hoped);
                 let found = drawn.as_ref().is_some_and(|(_, outcome)| *outcome == hoped);
                 chosen = drawn.map(|(next, _)| next).or(chosen);
                 if found {
@@ -390,10 +405,20 @@ impl<'a, Q: Write, A: Write> Set<'a, Q, A> {
 
     /// A segment with unlinked routines loaded, opened, run and closed.
     fn unlinked_bench(&mut self) -> io::Result<()> {
+        let (start, calls) = unlinked::bench_case(&mut self.rng);
+        self.calls_and_soundness(start, calls)
+    }
+
+    /// Sessions that run into the segment's end, some faulted already.
+    fn cut_bench(&mut self) -> io::Result<()> {
+        let (start, calls) = cut::bench_case(&mut self.rng);
+        self.calls_and_soundness(start, calls)
+    }
+
+    fn calls_and_soundness(&mut self, start: World, calls: Vec<Call>) -> io::Result<()> {
         if self.full() {
             return Ok(());
         }
-        let (start, calls) = unlinked::bench_case(&mut self.rng);
         self.writer.case(start)?;
         for call in calls {
             self.ask(Request::Entry(call))?;

@@ -4,6 +4,7 @@
 
 use crate::bench::{Record, Slot};
 use crate::coverage::AboutTo;
+use crate::cut;
 use crate::generate::{
     operand_size, registers, session_case, telling_factor, telling_integer, telling_mark,
     telling_operands, telling_word, Outcome, Rng, RunCase, View,
@@ -111,9 +112,10 @@ pub fn outcome(world: &World, number: usize) -> Option<Outcome> {
 }
 
 /// The world changed so that its session meets a first byte (or, for `None`,
-/// the end of the segment), with what the step will come to.  `None` if the
-/// draw gave nothing sound.
-pub fn draw(rng: &mut Rng, place: &Place, world: &World, first: Option<u8>) -> Option<(World, Outcome)> {
+/// the end of the segment), with what the step will come to, which may be other
+/// than hoped.  `None` if the draw gave nothing sound.
+pub fn draw(rng: &mut Rng, place: &Place, world: &World, hoped: Outcome) -> Option<(World, Outcome)> {
+    let (first, hoped_end) = hoped;
     let record = *world.bench.records.get(place.session)?;
     let segment = Segment::judge(world.segment_bytes(record.slot)?).ok()?;
     let length = record.length as i64;
@@ -130,9 +132,10 @@ pub fn draw(rng: &mut Rng, place: &Place, world: &World, first: Option<u8>) -> O
     if let Some(first) = first {
         // Where it stands: somewhere, at the very end, or cut off by the end.
         let size = 1 + operand_size(first, rng);
-        let at = match rng.up_to(4) {
-            0 => end - size,
-            1 => end - rng.between(1, size),
+        let at = match (cut::bytes_there(hoped_end), rng.up_to(4)) {
+            (Some(there), _) => end - i64::from(there),
+            (None, 0) => end - size,
+            (None, 1) => end - rng.between(1, size),
             _ => rng.between(22, end - size),
         };
         session.counter = u64::try_from(at).ok().filter(|at| *at >= 22)?;

@@ -27,8 +27,11 @@ fn both(case: &RunCase) {
         (quick_done, quick_session, &quick),
         "{case:?}"
     );
-    if let Kind::Faulted { place, .. } = plain_session.kind {
-        assert_eq!(place, plain_session.counter);
+    if let Kind::Faulted { number, place } = plain_session.kind {
+        // the counter stays on the instruction; where a byte is missing in a
+        // sound session's code, the first one is at 2W
+        let end = segment.bytes.len() as u64;
+        assert_eq!(place, if number == 1 { end } else { plain_session.counter });
     }
 }
 
@@ -39,8 +42,8 @@ fn fast_agrees_on_single_steps() {
     for _ in 0..400 {
         let place = steps::base(&mut rng);
         for _ in 0..40 {
-            let (first, _) = rng.pick(&possible, (None, 1));
-            let Some((mut world, _)) = steps::draw(&mut rng, &place, &place.world, first) else { continue };
+            let hoped = rng.pick(&possible, (None, 1));
+            let Some((mut world, _)) = steps::draw(&mut rng, &place, &place.world, hoped) else { continue };
             let mut quick = world.clone();
             let turn = Call::Turn { session: place.session as u64, k: 1 };
             assert_eq!(ask(&mut world, turn), Ok(1));

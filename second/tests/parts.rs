@@ -1,11 +1,13 @@
 //! What is worked by hand and is no request: the table of first bytes, the
 //! reader of operands, word positions, and the format's digest.
 
+use second::bench::Runner;
 use second::cases::digest;
+use second::fast;
 use second::generate::SMALL;
 use second::hand::{carried, hand_segment};
-use second::machine::instruction;
-use second::segment::{Reader, Segment};
+use second::machine::{self, instruction, Kind, Session};
+use second::segment::{Missing, Reader, Segment};
 
 #[test]
 fn the_carried_first_bytes() {
@@ -55,7 +57,6 @@ fn word_positions() {
 fn operands() {
     let mut bytes = hand_segment(0);
     bytes[50..59].copy_from_slice(&[0x7F, 0x80, 0x7F, 0x80, 0x80, 0xFF, 0xFF, 0x34, 0x12]);
-    bytes[127] = 0x80;
     let segment = Segment::judge(&bytes).unwrap();
     let at = |place| Reader::at(&segment, place);
     let b = |place| {
@@ -63,24 +64,66 @@ fn operands() {
         let value = reader.b();
         (value, reader.place - place)
     };
-    assert_eq!(b(50), (Some(127), 1)); // (a)
-    assert_eq!(b(51), (Some(127), 2)); // (b)
-    assert_eq!(b(53), (Some(128), 2)); // (c)
-    assert_eq!(b(55), (Some(32_767), 2)); // (d)
-    assert_eq!(b(127).0, None); // (e)
-    assert_eq!(at(57).w(), Some(4_660)); // (f)
-    assert_eq!(at(55).w(), Some(-1));
-    assert_eq!(at(127).w(), None);
-    assert_eq!(at(55).ub(), Some(255));
-    assert_eq!(at(55).sb(), Some(-1));
-    assert_eq!(at(51).sb(), Some(-128));
-    assert_eq!(at(50).sb(), Some(127));
-    assert_eq!(at(50).db(), Some(127));
-    assert_eq!(at(51).db(), Some(128)); // judged later, by the step
-    for place in [0, 21, 128, u64::MAX] {
-        assert_eq!(at(place).ub(), None);
+    assert_eq!(b(50), (Ok(127), 1)); // (a)
+    assert_eq!(b(51), (Ok(127), 2)); // (b)
+    assert_eq!(b(53), (Ok(128), 2)); // (c)
+    assert_eq!(b(55), (Ok(32_767), 2)); // (d)
+    assert_eq!(at(57).w(), Ok(4_660)); // (f)
+    assert_eq!(at(55).w(), Ok(-1));
+    assert_eq!(at(55).ub(), Ok(255));
+    assert_eq!(at(55).sb(), Ok(-1));
+    assert_eq!(at(51).sb(), Ok(-128));
+    assert_eq!(at(50).sb(), Ok(127));
+    assert_eq!(at(50).db(), Ok(127));
+    assert_eq!(at(51).db(), Ok(128)); // judged later, by the step
+    assert_eq!(at(22).ub(), Ok(3));
+}
+
+/// 02, request 8: "The operand reader shall report the offset of the first byte
+/// it could not fetch".
+#[test]
+fn the_first_missing_byte() {
+    let mut bytes = hand_segment(0);
+    bytes[126..].copy_from_slice(&[0x80, 0x80]);
+    let segment = Segment::judge(&bytes).unwrap();
+    let at = |place| Reader::at(&segment, place);
+    let end = Err(Missing(128));
+    assert_eq!(at(127).b(), end.map(|()| 0)); // (e)
+    assert_eq!(at(128).b(), end.map(|()| 0));
+    assert_eq!(at(126).b(), Ok(128));
+    assert_eq!(at(127).w(), end.map(|()| 0));
+    assert_eq!(at(128).w(), end.map(|()| 0));
+    assert_eq!(at(126).w(), Ok(-32_640));
+    // outside 22..2W-1 it is the byte asked for, not the segment's length
+    for place in [0, 21, 128, 129, 200, u64::MAX] {
+        let missing = Missing(place);
+        assert_eq!(at(place).ub(), Err(missing));
+        assert_eq!(at(place).sb(), Err(missing));
+        assert_eq!(at(place).db(), Err(missing));
+        assert_eq!(at(place).b(), Err(missing));
+        assert_eq!(at(place).w(), Err(missing));
+        // and the reader stays on it
+        let mut reader = at(place);
+        assert_eq!((reader.byte(), reader.place), (Err(missing), place));
     }
-    assert_eq!(at(22).ub(), Some(3));
+}
+
+/// 02, request 8: "A first byte out of range gives the same place as before.",
+/// also where no sound session has its counter.
+#[test]
+fn a_step_from_any_counter() {
+    let mut bytes = hand_segment(0);
+    bytes[127] = 128; // LDCB, cut
+    let segment = Segment::judge(&bytes).unwrap();
+    for (counter, place) in [(0, 0), (21, 21), (127, 128), (128, 128), (129, 129), (u64::MAX, u64::MAX)] {
+        let kind = Kind::Faulted { number: 1, place };
+        for runner in [machine::turn as Runner, fast::turn] {
+            let mut session = Session { counter, ..machine::starting_state(&segment, 16) };
+            let before = session;
+            assert_eq!(runner(&segment, &[], &mut [0; 16], &mut session, 9), 1);
+            assert_eq!(session, Session { kind, ..before });
+        }
+    }
 }
 
 #[test]

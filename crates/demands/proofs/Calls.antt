@@ -19,7 +19,7 @@ use Rattle.pmachine.specs.Opcode.{carried, one, two, opcode, rowIn, appendixB}
 use Rattle.pmachine.specs.Decoding.{instruction, decode}
 use Rattle.pmachine.specs.Step.{Outcome, fault, goes, firstFault, floor, callable, newRecord, markAt, resumes, Link, reaches, broken, isBroken, recordOf, reached, groundFor, asks, effect}
 use Rattle.pmachine.specs.Sound.{Ranged}
-use Rattle.pmachine.specs.Run.{isReady, written, settled, step}
+use Rattle.pmachine.specs.Run.{isReady, written, placeOf, settled, step}
 use Rattle.demands.specs.Cases.{at-work, stopped, At, CallReturns, CallFaults, Call, Calls}
 use Rattle.pmachine.proofs.Judged.{first-holds}
 use Rattle.pmachine.proofs.Runs.{step-ready}
@@ -38,9 +38,9 @@ called : (s shared w u : List ℕ) (r q : Registers) (p : Whose) (k n : ℕ) →
 unfolding effect asks groundFor settled isReady
 called s shared w u r q p k n d e =
     let z : r .sp + 0 - 0 ≡ r .sp = omega arith in
-    first-holds (λ (o : Outcome). settled w r o ≡ at-work u q → Called s w u r q p k n) (checksAt s shared w r (call p k) 0 n (r .sp)) _
+    first-holds (λ (o : Outcome). settled s w r o ≡ at-work u q → Called s w u r q p k n) (checksAt s shared w r (call p k) 0 n (r .sp)) _
     (λ f _ _ bad.
-    let kinds : faulted f (r .counter) ≡ ready = ap (λ (t : State). t .kind) bad in
+    let kinds : faulted f (placeOf s f (r .counter)) ≡ ready = ap (λ (t : State). t .kind) bad in
     let never : _≡_ {A = ℕ} 0 1 = cc in
     absurd (omega arith))
     (λ c good. record {
@@ -49,7 +49,7 @@ called s shared w u r q p k n d e =
       words = sym (ap (λ (t : State). t .words) good);
       record-is = sym (ap (λ (t : State). t .registers .m) good);
     })
-    (ap (settled w r) (sym (judged-at s shared w r d z)) ∙ sym (step-ready s shared (at-work w r) refl) ∙ e)
+    (ap (settled s w r) (sym (judged-at s shared w r d z)) ∙ sym (step-ready s shared (at-work w r) refl) ∙ e)
 
 -- the mark that a call writes is the mark at its record
 mark-written : (w : List ℕ) (m a b c d e : ℕ) → m + 5 ≤ length w → markAt (written w m (a ∷ b ∷ c ∷ d ∷ e ∷ [])) m ≡ a ∷ b ∷ c ∷ d ∷ e ∷ []
@@ -127,10 +127,10 @@ call-returns bytes p reading s shared w u v r q a k b rg at gone back few room s
 
 -- a call's checks in their order, 9, 8 and 4: which of them is 8's
 call-faults : (bytes : List ℕ) (p : Whose) → Reading bytes p → CallFaults bytes p
-unfolding isReady settled asks effect groundFor firstFault
+unfolding isReady placeOf settled asks effect groundFor firstFault
 call-faults bytes p reading s shared w r k at =
     let z : r .sp + 0 - 0 ≡ r .sp = omega arith in
-    let judged = step-ready s shared (at-work w r) refl ∙ ap (settled w r) (judged-at s shared w r (reading s shared w r k at .0) z) in
+    let judged = step-ready s shared (at-work w r) refl ∙ ap (settled s w r) (judged-at s shared w r (reading s shared w r k at .0) z) in
     rw (judged, le-ltb (length w) (r .sp + 0) (at .some)) (go (isBroken (reached w (r .m) p)) (callable s k) (ltb (newRecord s (r .sp) k) (floor s)) _ _ _)
   where
     number : Kind → ℕ
@@ -142,7 +142,7 @@ call-faults bytes p reading s shared w r k at =
     other e differs h = differs (sym e ∙ ap (λ (x : State). number (x .kind)) h)
 
     go : (b c d : Bool) (q : Registers) (i : ℕ) (ws : List ℕ)
-        → (settled w r (cond b (fault 9) (cond (not c) (fault 8) (cond d (fault 4) (goes q i ws)))) ≡ stopped w r 8) ↔ ((b ≡ false) × (c ≡ false))
+        → (settled s w r (cond b (fault 9) (cond (not c) (fault 8) (cond d (fault 4) (goes q i ws)))) ≡ stopped w r 8) ↔ ((b ≡ false) × (c ≡ false))
     go true c d q i ws = (λ h. absurd (other refl (λ e. omega (arith, e)) h), λ h. absurd (false≢true (sym (h .0))))
     go false false d q i ws = (λ h. (refl, refl), λ h. refl)
     go false true true q i ws = (λ h. absurd (other refl (λ e. omega (arith, e)) h), λ h. absurd (false≢true (sym (h .1))))

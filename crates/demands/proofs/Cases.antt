@@ -19,7 +19,7 @@ use Rattle.pmachine.specs.State.{Registers, faulted}
 use Rattle.pmachine.specs.Meaning.{Whose, globals, up, load, store, jump-if}
 use Rattle.pmachine.specs.Opcode.{carried, one, opcode, rowIn, appendixB}
 use Rattle.pmachine.specs.Step.{pointer, target, Link, reaches, broken, follow, reached, moved, wordAt, groundFor, firstFault, asks, effect}
-use Rattle.pmachine.specs.Run.{isReady, written, step, run}
+use Rattle.pmachine.specs.Run.{isReady, written, placeOf, step, run}
 use Rattle.demands.specs.Cases.{at-work, Leads, At, Cases, onward, Walks}
 use Rattle.pmachine.proofs.Links.{Arrives, follow-arrives}
 use Rattle.pmachine.proofs.Frame.{step-fault}
@@ -144,7 +144,7 @@ module _ (s shared w : List ℕ) (r : Registers) where
 
   chk : (x : Bool) → between ≡ x → At s shared w r (203 ∷ []) 3 → step s shared (at-work w r)
       ≡ cond x (at-work w (moved r (r .sp + 2) (r .counter + 1))) (record { words = w; registers = r; kind = faulted 10 (r .counter) })
-  unfolding opcode rowIn appendixB effect asks written firstFault groundFor isReady
+  unfolding opcode rowIn appendixB effect asks written firstFault groundFor isReady placeOf
   chk true f at =
       goes-on _ _ _ _ (r .sp + 2) (r .counter + 1) (decoded (coded s 203 [] (r .counter) (at .code) (at .are) .0) refl no-operand refl)
       (omega arith) (at .some) (ap not (asked-between ∙ f), tt) refl (omega (arith, at .low))

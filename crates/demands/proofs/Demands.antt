@@ -16,6 +16,7 @@ use Rattle.turning.proofs.Twice.{once, twins}
 use Rattle.turning.proofs.Outputs.{kept, writes, turns-back}
 use Rattle.pmachine.proofs.Rows.{lines-consecutive}
 use Rattle.pmachine.proofs.Frame.{step-kept}
+use Rattle.pmachine.proofs.Places.{fault-place, fault-one, first-missing, place-outside, place-others, place-at-end}
 use Rattle.pmachine.proofs.Keeps.{step-keeps, run-keeps}
 use Rattle.pmachine.proofs.Runs.{run-add, count-add, count-most, count-all}
 use Rattle.sound.specs.Bench.{World}
@@ -75,6 +76,12 @@ demands =
       remainder-smaller = remainder-smaller;
       remainder-sign = remainder-sign;
       step-kept = step-kept;
+      fault-place = fault-place;
+      fault-one = fault-one;
+      first-missing = first-missing;
+      place-outside = place-outside;
+      place-others = place-others;
+      place-at-end = place-at-end;
       step-keeps = step-keeps;
       run-keeps = run-keeps;
       run-add = run-add;

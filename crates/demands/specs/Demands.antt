@@ -9,14 +9,17 @@ use Prim.Native.Nat.{ℕ, suc, _+_, _*_, _-_, _/_, _≤_, _<_}
 use lib.ListN.{length, getD, take, drop}
 use lib.IntN.{ℤ, pos, negsuc, negℤ, natAbs, _+ℤ_, _*ℤ_}
 use lib.Signed.{quotZ, remZ}
+use Rattle.basis.specs.Bools.{inside}
 use Rattle.basis.specs.Checks.{Check, passed, refused, ruling, passes, FirstFailing}
 use Rattle.operand.specs.Bytes.{byteAt}
 use Rattle.operand.specs.Operand.{Form, got, out, fetched}
-use Rattle.segment.specs.Head.{least, word, dict, reloc, pool, real, count, entry, datasize, exitic, start}
+use Rattle.segment.specs.Head.{words, least, word, dict, reloc, pool, real, count, entry, datasize, exitic, start}
 use Rattle.segment.specs.Judge.{headChecks, routineChecks, checks, judged}
-use Rattle.pmachine.specs.State.{Registers, State}
+use Rattle.pmachine.specs.State.{Registers, faulted, State}
 use Rattle.pmachine.specs.Opcode.{appendixB, consecutive}
-use Rattle.pmachine.specs.Run.{isReady, step, run, stepsDone}
+use Rattle.pmachine.specs.Decoding.{faulty, decode}
+use Rattle.pmachine.specs.Step.{fault, judge}
+use Rattle.pmachine.specs.Run.{isReady, placeOf, step, run, stepsDone}
 use Rattle.pmachine.specs.Sound.{inRange, Loaded}
 use Rattle.turning.specs.Turn.{framed, position, swapAt, turned, turnRuling, outputOf}
 use Rattle.interleave.specs.Interleave.{By, mine, oneByOne, Below}
@@ -171,6 +174,22 @@ pub record Demands : Type 0 where
   pub step-kept :
       (s shared : List ℕ) (t : State) → isReady (t .kind) ≡ true → isReady (step s shared t .kind) ≡ false
       → (step s shared t .words ≡ t .words) × (step s shared t .registers ≡ t .registers)
+  -- request 8, "Say where the bytes ran out": a step faults with n at p exactly if n is the fault that is judged, and p its place
+  pub fault-place :
+      (s shared : List ℕ) (t : State) (n p : ℕ) → isReady (t .kind) ≡ true
+      → (step s shared t .kind ≡ faulted n p) ↔ ((judge s shared (t .words) (t .registers) ≡ fault n) × (p ≡ placeOf s n (t .registers .counter)))
+  -- 1 is given exactly if the decoder gives it
+  pub fault-one : (s shared w : List ℕ) (r : Registers) → (judge s shared w r ≡ fault 1) ↔ (decode s (r .counter) ≡ faulty 1)
+  -- fault 1 carries "the offset of the first byte it could not fetch": that byte is not there, and those before it, from the instruction's first on, are
+  pub first-missing :
+      (s : List ℕ) (at : ℕ) → 22 ≤ at → decode s at ≡ faulty 1
+      → (at ≤ placeOf s 1 at) × (length s ≤ placeOf s 1 at) × ((i : ℕ) → at ≤ i → i < placeOf s 1 at → i < length s)
+  -- "A first byte out of range gives the same place as before. All other faults keep theirs." And in a session that soundness allows it is 2W
+  pub place-outside : (s : List ℕ) (n at : ℕ) → inside 22 (length s) at ≡ false → placeOf s n at ≡ at
+  pub place-others : (s : List ℕ) (n at : ℕ) → (n ≡ 1 → ⊥) → placeOf s n at ≡ at
+  pub place-at-end :
+      (s shared : List ℕ) (l : ℕ) → Loaded s → (k : ℕ) (t : State) → length (t .words) ≡ l → inRange s l (t .registers) (t .kind) ≡ true
+      → isReady (t .kind) ≡ true → (p : ℕ) → run s shared k t .kind ≡ faulted 1 p → p ≡ 2 * words s
   -- a step, and a turn, keep what soundness says of a session
   pub step-keeps :
       (s shared : List ℕ) (l : ℕ) → Loaded s → (t : State) → length (t .words) ≡ l → inRange s l (t .registers) (t .kind) ≡ true

@@ -44,9 +44,9 @@ after k =
 unfoldable pub cutShort : List ℕ
 cutShort = take 30 small ++ (0x87 ∷ 0x80 ∷ [])
 
--- its one step faults with 1, the place and the counter are the instruction's first byte, and nothing else has changed
+-- its one step faults with 1 at the byte that is missing, 2W, the counter stays at the instruction's first byte, and nothing else has changed
 unfoldable pub afterCut : State
-afterCut = record { words = replicate 16 0; registers = record { sp = 16; m = 1; counter = 30; routine = 1 }; kind = faulted 1 30 }
+afterCut = record { words = replicate 16 0; registers = record { sp = 16; m = 1; counter = 30; routine = 1 }; kind = faulted 1 32 }
 
 unfoldable pub marked-cases : List Case
 marked-cases =
@@ -55,7 +55,7 @@ marked-cases =
     ∷ reads B (0x80 ∷ 0x80 ∷ []) (got 128 2)  -- (c) 80 80 is 128
     ∷ reads B (0xFF ∷ 0xFF ∷ []) (got 32767 2)  -- (d) FF FF is 32,767
     ∷ reads B (0x80 ∷ []) (out 1)  -- (e) B from 80 at the segment's end, fault 1
-    ∷ turns cutShort 9 1 afterCut
+    ∷ turns cutShort 9 1 afterCut  -- request 8: "Case (e) gains its place: 2W"
     ∷ reads W (0x34 ∷ 0x12 ∷ []) (got 4660 2)  -- (f) W from 34 12 is 4,660
     ∷ is-minus (addOf 32767 1) 32768  -- (g) 32,767+1 is -32,768
     ∷ is (mulOf 300 300) 24464  -- (h) 300 times 300 is 24,464

@@ -1,14 +1,14 @@
 -- The promises are not empty: the entries lead from nothing to a sound bench with a ready, a finished and a faulted session, and each of them
--- takes a turn; a segment with a routine that is not linked loads; and refusals 1, 6 and 11 to 17 are each given to somebody. So no runner that
--- refuses everything, and no loader that takes everything, meets the contracts.
+-- takes a turn; a segment with a routine that is not linked loads; a report that ends within an instruction faults where its bytes ran out; and
+-- refusals 1, 6 and 11 to 17 are each given to somebody. So no runner that refuses everything, and no loader that takes everything, meets the contracts.
 -- Proved as `witness` in proofs/Witness, by computing. Above: Demands. Below: bench's entries.
 use mathlib.Core.Path.{_≡_}
 use mathlib.Core.Bool.{true}
 use mathlib.Core.List.{List, [], _∷_, _++_}
 use Prim.Native.Nat.{ℕ, zero, suc}
-use lib.ListN.{replicate, take, drop}
+use lib.ListN.{replicate, set, take, drop}
 use Rattle.machine.specs.declared.Kind.the-variants.{Ready, Finished, Faulted}
-use Rattle.sound.specs.Bench.{World, worldOf, sessionAt, wordsOf}
+use Rattle.sound.specs.Bench.{World, worldOf, sessionAt, wordsOf, at-cpu, at-sessions}
 use Rattle.sound.specs.Sound.{Sound}
 use Rattle.entry.specs.declared.Answer.{Answer}
 use Rattle.entry.specs.declared.Answer.the-variants.{Done, Refused}
@@ -37,6 +37,21 @@ linking = loadOf declared 1 34 34 (loadOf declared 0 0 34 (worldOf (newOf 56 4 .
 
 unfoldable pub calling : World
 calling = openOf declared 1 16 (openOf declared 0 16 linking .world) .world
+
+-- a segment that ends within LDL's operand, as in case (e), loaded, and a session on it after its turn; and the same with the place that fault 1
+-- had before request 8, as a bench of that time has it
+unfoldable pub short : List ℕ
+short = segment 0x87 0x80
+
+unfoldable pub ranOut : World
+ranOut = turnOf short 0 9 (openOf short 0 16 (loadOf short 0 0 32 (worldOf (newOf 56 4 .bench) (replicate 56 0)) .world) .world) .world
+
+unfoldable pub earlier : World
+earlier =
+    worldOf
+    (at-sessions (ranOut .bench)
+    (set (ranOut .bench .sessions) 0 (at-cpu (sessionAt ranOut 0) (record { kind = Faulted 1 30; regs = sessionAt ranOut 0 .cpu .regs }))))
+    (ranOut .mem)
 
 -- the small segment, then one that returns at once (RPU 0)
 unfoldable pub store : List ℕ
@@ -79,6 +94,11 @@ pub record Witness : Type 0 where
   pub unlinked-loads : (loadedAt linking 0 ≡ true) × (loadedAt linking 1 ≡ true)
   pub unlinked-call : sessionAt (turnOf declared 0 9 calling .world) 0 .cpu .kind ≡ Faulted 8 32
   pub twin-call : sessionAt (turnOf declared 1 9 calling .world) 1 .cpu .kind ≡ Faulted 8 32
+  -- request 8: fault 1 at the first byte that is missing, with the counter on the instruction; and a record of the place before it is sound and stays
+  pub ran-out : sessionAt ranOut 0 .cpu .kind ≡ Faulted 1 32
+  pub ran-out-counter : sessionAt ranOut 0 .cpu .regs .counter ≡ 30
+  pub earlier-turn : turnOf short 0 9 earlier .answer ≡ Done 0
+  pub earlier-place : sessionAt (turnOf short 0 9 earlier .world) 0 .cpu .kind ≡ Faulted 1 30
   -- refusals; the entry that is refused with 6 is a zero of routine 1
   pub no-bench : newOf 56 57 .answer ≡ Refused 17 0
   pub not-sound : turnOf [] 0 1 ran .answer ≡ Refused 11 0

@@ -17,6 +17,7 @@ ghost use Rattle.segment.specs.Head.{headOf, routineOf};
 ghost use Rattle.segment.specs.Judge.{judged, rulingOf};
 ghost use Rattle.pmachine.specs.Opcode.{opcode};
 ghost use Rattle.pmachine.specs.Decoding.{decode};
+ghost use Rattle.pmachine.specs.Run.{placeOf};
 ghost use Rattle.opcodes.specs.Packed.{packed};
 ghost use Rattle.instruction.specs.Decodes.{decodingOf};
 ghost use Rattle.turning.specs.Turn.{turnRuling, outputOf};
@@ -71,6 +72,13 @@ pub fn instruction(seg: &[u8], at: usize) -> Instruction
     ensures decodes { λ r. ⌜ (22 ≤ at → at < length (now (seg .entry)) → decodingOf r ≡ decode (now (seg .entry)) at) ⌝ }
 {
     instruction::read(seg, at)
+}
+
+// The place of a fault of the instruction at a byte: request 8, "fault 1 carries that as its place .. All other faults keep theirs."
+pub fn fault_place(seg: &[u8], number: u8, at: usize) -> usize
+    ensures { λ r. ⌜ r ≡ placeOf (now (seg .entry)) number at ⌝ }
+{
+    instruction::place_of(seg, number, at)
 }
 
 // "Every one of the 256 first bytes has its operand form, words taken and words given in one table"

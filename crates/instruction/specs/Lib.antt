@@ -3,3 +3,4 @@ pub mod Standing
 pub mod Decodes
 pub mod Parts
 pub mod Targets
+pub mod Recorded

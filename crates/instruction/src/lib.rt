@@ -1,10 +1,15 @@
 // What stands at a byte of the code: the first byte, whether it is carried, and its operands as far as they are there.
-// Above: listings, and what is told of a fault. Below: the table of first bytes in `opcodes`, and the reader, which fetches operands.
+// Above: a step that faults, listings, and what is told of a fault. Below: the table of first bytes in `opcodes`, and the reader, which fetches operands.
 mod jump;
+mod place;
+mod recorded;
 
 pub use jump::Target;
 pub use jump::leads_to;
 use operand::Operand;
+pub use place::fetches_to;
+pub use place::place_of;
+pub use recorded::is_recorded;
 ghost use mathlib.Core.Path.{_≡_};
 ghost use mathlib.Core.Bool.{true};
 ghost use Rattle.operand.specs.Operand.{fetchedOf, operandValue};

@@ -94,14 +94,14 @@ module _ {s m₀ : List ℕ} {f : Facts} {at end j : ℕ} {start : Regs} (steady
           memory = g .held ∙ sym (ap (λ (x : State). splice at end (x .words) m₀) z);
         }
 
-    module _ {q : Stepped} {m′ : List ℕ} (lt : 0 < left) (st : Stood r (judge s (take j m) (part at end m) r) at end m q m′) where
+    module _ {q : Stepped} {m′ : List ℕ} (lt : 0 < left) (st : Stood s r (judge s (take j m) (part at end m) r) at end m q m′) where
       o : Outcome
       o = judge s (take j m) (part at end m) r
 
       v : List ℕ
-      v = settled (part at end m) r o .words
+      v = settled s (part at end m) r o .words
 
-      stepped-words : step s (take j m) (stateAt at end m r ready) ≡ settled (part at end m) r o
+      stepped-words : step s (take j m) (stateAt at end m r ready) ≡ settled s (part at end m) r o
       unfolding o
       stepped-words = step-ready s (take j m) (stateAt at end m r ready) (unfold isReady in refl)
 
@@ -126,7 +126,7 @@ module _ {s m₀ : List ℕ} {f : Facts} {at end j : ℕ} {start : Regs} (steady
 
       -- the session after the step
       abbrev next : State
-      next = stateAt at end m′ (wentTo r q) (cameTo r q)
+      next = stateAt at end m′ (wentTo r q) (cameTo q)
 
       stepped : step s (take j m₀) (stateAt at end m r ready) ≡ next
       unfolding v o
@@ -151,7 +151,7 @@ module _ {s m₀ : List ℕ} {f : Facts} {at end j : ℕ} {start : Regs} (steady
           omega (arith, g .counted, a, b, d, lt)
 
       -- a session that stopped
-      pub going-stop : {kind : Kinds} {t : Turned} → wentTo r q ≡ r → kindOf kind ≡ cameTo r q → isReady (cameTo r q) ≡ false
+      pub going-stop : {kind : Kinds} {t : Turned} → wentTo r q ≡ r → kindOf kind ≡ cameTo q → isReady (cameTo q) ≡ false
           → t ≡ record { cpu = record { kind = kind; regs = now }; done = k - left + 1 } → TurnedTo s m₀ j at end k r₀ ready t m′
       going-stop still named e t =
           let z = now-ran ∙ run-stopped s (take j m₀) (left - 1) next e in
@@ -166,7 +166,7 @@ module _ {s m₀ : List ℕ} {f : Facts} {at end j : ℕ} {start : Regs} (steady
       -- a session that goes on
       pub going-next : {then : Regs} → q ≡ Went then → Going s m₀ at end j k r₀ m′ (regsOf then) (left - 1)
       going-next {then} e =
-          let u : next ≡ stateAt at end m′ (regsOf then) ready = ap (λ (x : Stepped). stateAt at end m′ (wentTo r x) (cameTo r x)) e in
+          let u : next ≡ stateAt at end m′ (regsOf then) ready = ap (λ (x : Stepped). stateAt at end m′ (wentTo r x) (cameTo x)) e in
           let w : Whole s (end - at) (stateAt at end m r ready) = record { size = wide; registers = g .ranged; kind = tt } in
           let h = step-whole s (take j m₀) (end - at) (steady .loaded) (stateAt at end m r ready) w in
           record {

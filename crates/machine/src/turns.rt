@@ -70,8 +70,8 @@ fn run(
                 now = next;
                 left -= 1;
             }
-            Stepped::Stuck(n) => {
-                return after(Kind::Faulted(n, now.counter), now, k - left + 1);
+            Stepped::Stuck(n, place) => {
+                return after(Kind::Faulted(n, place), now, k - left + 1);
             }
             Stepped::Ended => {
                 return after(Kind::Finished, now, k - left + 1);

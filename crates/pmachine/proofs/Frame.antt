@@ -9,7 +9,7 @@ use lib.ListN.{length, getD, set, length-set}
 use lib.Seq.{getD-set-same, getD-set-other}
 use Rattle.pmachine.specs.State.{Registers, ready, faulted, State}
 use Rattle.pmachine.specs.Step.{Outcome, fault, finish, goes, judge}
-use Rattle.pmachine.specs.Run.{isReady, written, settled, step}
+use Rattle.pmachine.specs.Run.{isReady, written, placeOf, settled, step}
 use Rattle.pmachine.specs.Kept.{StepKept}
 use Rattle.pmachine.proofs.Runs.{step-ready}
 
@@ -32,25 +32,25 @@ written-at (v ∷ vs) w at (suc k) f h =
 
 -- ---- one step
 
-settled-kept : (w : List ℕ) (r : Registers) (o : Outcome) → isReady (settled w r o .kind) ≡ false → (settled w r o .words ≡ w) × (settled w r o .registers ≡ r)
+settled-kept : (s w : List ℕ) (r : Registers) (o : Outcome) → isReady (settled s w r o .kind) ≡ false → (settled s w r o .words ≡ w) × (settled s w r o .registers ≡ r)
 unfolding settled isReady
-settled-kept w r (fault n) e = (refl, refl)
-settled-kept w r finish e = (refl, refl)
-settled-kept w r (goes q at ws) e = absurd (false≢true (sym e))
+settled-kept s w r (fault n) e = (refl, refl)
+settled-kept s w r finish e = (refl, refl)
+settled-kept s w r (goes q at ws) e = absurd (false≢true (sym e))
 
 module _ (s shared : List ℕ) (t : State) (e : isReady (t .kind) ≡ true) where
   pub step-fault : {n : ℕ} → judge s shared (t .words) (t .registers) ≡ fault n
-      → step s shared t ≡ record { words = t .words; registers = t .registers; kind = faulted n (t .registers .counter) }
+      → step s shared t ≡ record { words = t .words; registers = t .registers; kind = faulted n (placeOf s n (t .registers .counter)) }
   unfolding settled
-  step-fault h = step-ready s shared t e ∙ ap (settled (t .words) (t .registers)) h
+  step-fault h = step-ready s shared t e ∙ ap (settled s (t .words) (t .registers)) h
 
   pub step-goes : {q : Registers} {at : ℕ} {ws : List ℕ} → judge s shared (t .words) (t .registers) ≡ goes q at ws
       → step s shared t ≡ record { words = written (t .words) at ws; registers = q; kind = ready }
   unfolding settled
-  step-goes h = step-ready s shared t e ∙ ap (settled (t .words) (t .registers)) h
+  step-goes h = step-ready s shared t e ∙ ap (settled s (t .words) (t .registers)) h
 
 -- a step after which the session is not ready leaves words and registers
 pub step-kept : StepKept
 step-kept s shared t e h =
     rw (step-ready s shared t e)
-    (settled-kept (t .words) (t .registers) (judge s shared (t .words) (t .registers)) (rw (step-ready s shared t e) at h))
+    (settled-kept s (t .words) (t .registers) (judge s shared (t .words) (t .registers)) (rw (step-ready s shared t e) at h))

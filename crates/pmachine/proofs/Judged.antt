@@ -1,4 +1,5 @@
--- What one step may come to, from registers in range: a fault in 1..10, the finish, or registers in range and writes inside the region.
+-- What one step may come to, from registers in range: a fault in 1..10, the finish, or registers in range and writes inside the region; and fault 1
+-- only if the fetching came to the segment's end.
 -- One clause a meaning. Above: Keeps, and the proofs of the code's step; below: Step, Sound, Decoded.
 use Prim.Native.Nat.{ℕ, _+_, _-_, _%_, _<_, _≤_}
 use native.Mathlib.Omega.{arith}
@@ -14,12 +15,12 @@ use Rattle.segment.specs.Head.{count, linked, start}
 use Rattle.pmachine.specs.State.{Registers}
 use Rattle.pmachine.specs.Meaning.{Meaning, constant, pool-offset, load, address, store, index, indirect, unary}
 use Rattle.pmachine.specs.Meaning.{binary, division, duplicate, swap, nothing, subrange, jump, jump-if, call, return}
-use Rattle.pmachine.specs.Decoding.{Instruction, Decoded, instruction, faulty, decode}
+use Rattle.pmachine.specs.Decoding.{Instruction, Decoded, instruction, faulty, decode, fetchesTo}
 use Rattle.pmachine.specs.Step.{Outcome, fault, finish, goes, floor, pointer, private, target, callable, newRecord, markAt, resumes}
 use Rattle.pmachine.specs.Step.{moved, Ground, _when_, groundFor, firstFault, order, below, asks, effect, outcome, judgedBy, judge}
 use Rattle.pmachine.specs.Sound.{Ranged, Loaded}
 use Rattle.pmachine.proofs.Rows.{pushes}
-use Rattle.pmachine.proofs.Decoded.{Proper, ProperBy, decode-proper}
+use Rattle.pmachine.proofs.Decoded.{Proper, ProperBy, decode-proper, CutAt, reaches}
 
 -- ---- the order of checks
 
@@ -34,8 +35,8 @@ pub record Clear (checks : List Ground) : Type 0 where
   pub ten : groundFor 10 checks ≡ false
   pub four : groundFor 4 checks ≡ false
 
--- what holds of each fault in 1..10, and of what happens where no check fails, holds of the first that fails
-pub first-holds : (P : Outcome → Type 0) (checks : List Ground) (done : Outcome) → ((n : ℕ) → 1 ≤ n → n ≤ 10 → P (fault n)) → (Clear checks → P done)
+-- what holds of each fault in 3..10, and of what happens where no check fails, holds of the first that fails
+pub first-holds : (P : Outcome → Type 0) (checks : List Ground) (done : Outcome) → ((n : ℕ) → 3 ≤ n → n ≤ 10 → P (fault n)) → (Clear checks → P done)
     → P (firstFault order checks done)
 unfolding firstFault
 first-holds P cs done bad f =
@@ -56,10 +57,11 @@ pub record Goes (s : List ℕ) (l : ℕ) (q : Registers) (at : ℕ) (ws : List �
   pub fits : at + length ws ≤ l
   pub above : 0 < length ws → 1 ≤ at
 
-abbrev pub Good : List ℕ → ℕ → Outcome → Type 0
-Good s l (fault n) = (1 ≤ n) × (n ≤ 10)
-Good s l finish = Unit {0}
-Good s l (goes q at ws) = Goes s l q at ws
+-- of a step whose fetching comes to a byte
+abbrev pub Good : List ℕ → ℕ → ℕ → Outcome → Type 0
+Good s l byte (fault n) = (1 ≤ n) × (n ≤ 10) × (n ≡ 1 → byte ≡ length s)
+Good s l byte finish = Unit {0}
+Good s l byte (goes q at ws) = Goes s l q at ws
 
 -- what the checks of a mark say
 pub record Resumed (s w mark : List ℕ) (sp : ℕ) : Type 0 where
@@ -152,7 +154,7 @@ module _ (s shared w : List ℕ) (r : Registers) (ld : Loaded s) (rg : Ranged s 
         }
 
     returned : (v : ℕ) (x : Bool) → not (x || resumes s w (markAt w (r .m)) (r .m + 5 + v)) ≡ false
-        → Good s (length w)
+        → Good s (length w) (fetchesTo s (r .counter))
         (cond x finish
         (goes (record { sp = r .m + 5 + v; m = getD (markAt w (r .m)) 1 0; counter = getD (markAt w (r .m)) 2 0; routine = getD (markAt w (r .m)) 4 0 }) sp []))
     returned v true o = tt
@@ -162,7 +164,7 @@ module _ (s shared w : List ℕ) (r : Registers) (ld : Loaded s) (rg : Ranged s 
 
     effect-good : (x : Bool) (n : ℕ) (m : Meaning) → pushes m ≤ g → 22 ≤ n → n ≤ length s
         → Clear (3 when x ∷ 4 when below (floor s) (effect s shared w r sp n m) ∷ asks s shared w r n m)
-        → Good s (length w) (effect s shared w r sp n m)
+        → Good s (length w) (fetchesTo s (r .counter)) (effect s shared w r sp n m)
     unfolding effect asks groundFor pushes
     effect-good x n (constant v) p a b c = on-stack n (v ∷ []) p a b (c .four)
     effect-good x n (pool-offset v) p a b c = on-stack n (_ ∷ []) p a b (c .four)
@@ -183,23 +185,25 @@ module _ (s shared w : List ℕ) (r : Registers) (ld : Loaded s) (rg : Ranged s 
     effect-good x n (call u j) p a b c = called j _ refl (c .eight) (c .four)
     effect-good x n (return v) p a b c = returned v (eqb (r .m) 1) (c .nine)
 
-  outcome-good : (i : Instruction) → Proper s (r .counter) i → Good s (length w) (outcome s shared w r i)
+  outcome-good : (i : Instruction) → Proper s (r .counter) i → Good s (length w) (fetchesTo s (r .counter)) (outcome s shared w r i)
   unfolding outcome groundFor
   outcome-good i d =
-      first-holds (Good s (length w)) _ _ (λ n a b. (a, b)) (λ c.
+      first-holds (Good s (length w) _) _ _ (λ n a b. (omega (arith, a), b, λ one. absurd (omega (arith, a, one)))) (λ c.
       let h = ltb-false (length w) (r .sp + i .taken) (c .three) in
       effect-good (r .sp + i .taken - i .given) (i .given) (omega (arith, d .few-given, rg .m-high)) _ (i .next) (i .does) (d .room)
       (omega (arith, d .first, d .after)) (d .end) c)
 
-  by-good : (x : Decoded) → ProperBy s (r .counter) x → Good s (length w) (judgedBy s shared w r x)
+  by-good : (x : Decoded) → ProperBy s (r .counter) x → CutAt s (fetchesTo s (r .counter)) x
+      → Good s (length w) (fetchesTo s (r .counter)) (judgedBy s shared w r x)
   unfolding judgedBy
-  by-good (instruction i) d = outcome-good i d
-  by-good (faulty n) d = (d .0, omega (arith, d .1))
+  by-good (instruction i) d c = outcome-good i d
+  by-good (faulty n) d c = (d .0, omega (arith, d .1), c)
 
-  pub judge-good : Good s (length w) (judge s shared w r)
+  pub judge-good : Good s (length w) (fetchesTo s (r .counter)) (judge s shared w r)
   unfolding judge
-  judge-good = by-good (decode s (r .counter)) (decode-proper s (r .counter))
+  judge-good =
+      by-good (decode s (r .counter)) (decode-proper s (r .counter)) (reaches s (r .counter) (rg .counter-low) (rg .counter-high) .cut-at)
 
   -- the same, of an outcome in hand
   pub judge-goes : {q : Registers} {at : ℕ} {ws : List ℕ} → judge s shared w r ≡ goes q at ws → Goes s (length w) q at ws
-  judge-goes e = subst (Good s (length w)) e judge-good
+  judge-goes e = subst (Good s (length w) _) e judge-good

@@ -6,15 +6,18 @@ use mathlib.Core.Path.{_≡_, _∙_}
 use mathlib.Core.List.{List}
 use mathlib.Core.Bool.{true}
 use lib.ListN.{length}
+use lib.Dec.{eqb}
 use Rattle.basis.proofs.Bools.{cond-holds}
 use Rattle.segment.specs.Head.{start}
 use Rattle.segment.proofs.Laws.{linked-some}
 use Rattle.pmachine.specs.State.{Registers, State}
 use Rattle.pmachine.specs.Step.{Outcome, fault, finish, goes, floor, judge}
-use Rattle.pmachine.specs.Run.{isReady, settled, step, run}
+use Rattle.pmachine.specs.Decoding.{fetchesTo}
+use Rattle.pmachine.specs.Run.{isReady, placeOf, settled, step, run}
 use Rattle.pmachine.specs.Sound.{inRange, Ranged, starting, Loaded}
 use Rattle.pmachine.specs.Kept.{StepKeeps, RunKeeps}
 use Rattle.pmachine.proofs.Ranges.{KindRanged, ranged, kind-ranged, in-range}
+use Rattle.pmachine.proofs.Decoded.{reaches}
 use Rattle.pmachine.proofs.Judged.{Good, judge-good}
 use Rattle.pmachine.proofs.Runs.{written-length, run-none, run-suc}
 
@@ -24,10 +27,20 @@ pub record Whole (s : List ℕ) (l : ℕ) (t : State) : Type 0 where
   pub registers : Ranged s l (t .registers)
   pub kind : KindRanged s (t .kind)
 
+-- the place of a fault lies in the code or at its end
+place-in : (s : List ℕ) (n at : ℕ) → 22 ≤ at → at ≤ length s → (22 ≤ placeOf s n at) × (placeOf s n at ≤ length s)
+unfolding placeOf
+place-in s n at low high =
+    let far = reaches s at low high in
+    cond-holds (λ (p : ℕ). (22 ≤ p) × (p ≤ length s)) (eqb n 1) (λ _. (omega (arith, far .from), far .to)) (λ _. (low, high))
+
 module _ (s shared : List ℕ) (l : ℕ) (ld : Loaded s) where
-  settled-whole : (w : List ℕ) (r : Registers) (o : Outcome) → length w ≡ l → Ranged s l r → Good s l o → Whole s l (settled w r o)
+  settled-whole : (w : List ℕ) (r : Registers) (o : Outcome) → length w ≡ l → Ranged s l r → Good s l (fetchesTo s (r .counter)) o
+      → Whole s l (settled s w r o)
   unfolding settled
-  settled-whole w r (fault n) e h g = record { size = e; registers = h; kind = (g .0, g .1, h .counter-low, h .counter-high) }
+  settled-whole w r (fault n) e h g =
+      let at = place-in s n (r .counter) (h .counter-low) (h .counter-high) in
+      record { size = e; registers = h; kind = (g .0, g .1, at .0, at .1) }
   settled-whole w r finish e h g = record { size = e; registers = h; kind = tt }
   settled-whole w r (goes q at ws) e h g = record { size = written-length ws w at ∙ e; registers = g .registers; kind = tt }
 

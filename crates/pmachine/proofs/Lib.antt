@@ -8,4 +8,5 @@ pub mod Judged
 pub mod Runs
 pub mod Keeps
 pub mod Frame
+pub mod Places
 pub mod Accepted

@@ -21,22 +21,22 @@ unfolding written
 written-length [] w at = refl
 written-length (v ∷ vs) w at = written-length vs (set w at v) (at + 1) ∙ length-set w at v
 
-settled-length : (w : List ℕ) (r : Registers) (o : Outcome) → length (settled w r o .words) ≡ length w
+settled-length : (s w : List ℕ) (r : Registers) (o : Outcome) → length (settled s w r o .words) ≡ length w
 unfolding settled
-settled-length w r (fault n) = refl
-settled-length w r finish = refl
-settled-length w r (goes q at ws) = written-length ws w at
+settled-length s w r (fault n) = refl
+settled-length s w r finish = refl
+settled-length s w r (goes q at ws) = written-length ws w at
 
 module _ (s shared : List ℕ) where
   pub step-length : (t : State) → length (step s shared t .words) ≡ length (t .words)
   unfolding step
   step-length t =
       cond-holds (λ (u : State). length (u .words) ≡ length (t .words)) (isReady (t .kind))
-      (λ _. settled-length (t .words) (t .registers) (judge s shared (t .words) (t .registers))) (λ _. refl)
+      (λ _. settled-length s (t .words) (t .registers) (judge s shared (t .words) (t .registers))) (λ _. refl)
 
   -- ---- a session that is ready, and one that is not
 
-  pub step-ready : (t : State) → isReady (t .kind) ≡ true → step s shared t ≡ settled (t .words) (t .registers) (judge s shared (t .words) (t .registers))
+  pub step-ready : (t : State) → isReady (t .kind) ≡ true → step s shared t ≡ settled s (t .words) (t .registers) (judge s shared (t .words) (t .registers))
   unfolding step
   step-ready t e = rw e
 

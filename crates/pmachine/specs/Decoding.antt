@@ -66,3 +66,19 @@ rowDecoded (uncarried forms) s at = faulty 2
 -- "the first byte is judged for 1 and 2 before its operands are fetched"; 1 is "an instruction byte outside 22..2W-1"
 unfoldable pub decode : List ℕ → ℕ → Decoded
 decode s at = cond (inside 22 (length s) at) (rowDecoded (opcode (byteAt s at)) s (at + 1)) (faulty 1)
+
+-- ---- how far a step fetches: request 8, "The operand reader shall report the offset of the first byte it could not fetch"
+
+-- the byte after the operands; or, where the segment ends within them, the byte that the reader reports
+unfoldable pub comesTo : Operands → ℕ
+comesTo (all vs next) = next
+comesTo (cut place) = place
+
+-- of a first byte that is not carried no operand is fetched
+unfoldable pub rowComesTo : Row → List ℕ → ℕ → ℕ
+rowComesTo (carried forms taken given does) s at = comesTo (operands forms s at)
+rowComesTo (uncarried forms) s at = at
+
+-- The byte that the fetching of the instruction at `at` comes to. A first byte that is not of the code is itself the one that cannot be fetched.
+unfoldable pub fetchesTo : List ℕ → ℕ → ℕ
+fetchesTo s at = cond (inside 22 (length s) at) (rowComesTo (opcode (byteAt s at)) s (at + 1)) at

@@ -14,12 +14,13 @@ fn code(b: Bench, store: &[u8], slot: usize) -> &[u8] {
     bounds::code_of(store, sl.start, sl.len)
 }
 
-// The line of the instruction that faulted.
+// The line of the instruction that faulted: a fault leaves the counter on it, and its place can be a byte further on.
 pub fn instruction(b: Bench, store: &[u8], se: Session) {
     let cpu = se.cpu;
+    let regs = cpu.regs;
     let kind = cpu.kind;
-    if let Kind::Faulted(_, place) = kind {
-        listing::line(code(b, store, se.slot), place);
+    if let Kind::Faulted(_, _) = kind {
+        listing::line(code(b, store, se.slot), regs.counter);
     }
 }
 

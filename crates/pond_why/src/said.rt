@@ -48,13 +48,13 @@ fn code(n: Numbers, c: Code) {
     let last = less(n.code as usize, 1);
     let told = match c {
         Code::Begins => [0, n.counter as usize, last, 0, 0, 0],
-        Code::Ends(missing) => [1, missing, last, 0, 0, 0],
+        Code::Ends(missing) => [1, n.counter as usize, missing, last, 0, 0],
         Code::Uncarried(first) => [2, first as usize, 0, 0, 0, 0],
         Code::Level(x) => [3, x as usize, 0, 0, 0, 0],
     };
     sentence(
         b"the instruction would begin at byte #, and the code is bytes 22 to #|\
-          the instruction needs byte #, and the segment ends at byte #|\
+          the instruction at byte # needs byte #, and the segment ends at byte #|\
           its first byte, ^ hex, is no instruction that the runner carries; it has no reals, sets, strings, packed fields, long integers or calls \
           to other segments|\
           its DB operand is #, and at most 127 is lawful",

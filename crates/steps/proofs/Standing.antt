@@ -52,8 +52,8 @@ module _ {s m : List ℕ} {f : Facts} {at end j : ℕ} {r : Regs} (steady : Stea
     told : outcomeOf r p ≡ o
     told = sym (ap (outcomeOf r) e) ∙ judged
 
-    pub stands : {q : Stepped} {m′ : List ℕ} → Stood (regsOf r) (outcomeOf r p) at end m q m′ → Stood (regsOf r) o at end m q m′
-    stands {q} {m′} z = subst (λ (x : Outcome). Stood (regsOf r) x at end m q m′) told z
+    pub stands : {q : Stepped} {m′ : List ℕ} → Stood s (regsOf r) (outcomeOf r p) at end m q m′ → Stood s (regsOf r) o at end m q m′
+    stands {q} {m′} z = subst (λ (x : Outcome). Stood s (regsOf r) x at end m q m′) told z
 
     pub room : {q : Registers} {x : ℕ} {ws : List ℕ} → outcomeOf r p ≡ goes q x ws → x + length ws ≤ end - at
     room g = let z = judge-goes s (take j m) (part at end m) (regsOf r) (steady .loaded) ranged (sym told ∙ g) in omega (arith, z .fits, wide)

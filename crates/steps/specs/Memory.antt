@@ -34,16 +34,17 @@ pub record Steady (s : List ℕ) (f : Facts) (m : List ℕ) (at end j : ℕ) (q 
 -- the registers that a step's answer tells, and the kind
 abbrev pub wentTo : Registers → Stepped → Registers
 wentTo r (Went q) = regsOf q
-wentTo r (Stuck n) = r
+wentTo r (Stuck n place) = r
 wentTo r Ended = r
 
-abbrev pub cameTo : Registers → Stepped → Kinds
-cameTo r (Went q) = ready
-cameTo r (Stuck n) = faulted n (r .counter)
-cameTo r Ended = finished
+abbrev pub cameTo : Stepped → Kinds
+cameTo (Went q) = ready
+cameTo (Stuck n place) = faulted n place
+cameTo Ended = finished
 
--- One step from r with the outcome o: registers and kind are the definition's, the region is the definition's, and no other word changes.
-pub record Stood (r : Registers) (o : Outcome) (at end : ℕ) (m : List ℕ) (q : Stepped) (m′ : List ℕ) : Type 0 where
-  pub registers : wentTo r q ≡ settled (part at end m) r o .registers
-  pub kind : cameTo r q ≡ settled (part at end m) r o .kind
-  pub memory : m′ ≡ splice at end (settled (part at end m) r o .words) m
+-- One step from r, on a segment's bytes, with the outcome o: registers and kind are the definition's, a fault's place too; the region is the
+-- definition's, and no other word changes.
+pub record Stood (s : List ℕ) (r : Registers) (o : Outcome) (at end : ℕ) (m : List ℕ) (q : Stepped) (m′ : List ℕ) : Type 0 where
+  pub registers : wentTo r q ≡ settled s (part at end m) r o .registers
+  pub kind : cameTo q ≡ settled s (part at end m) r o .kind
+  pub memory : m′ ≡ splice at end (settled s (part at end m) r o .words) m

@@ -1,5 +1,5 @@
 // One step of a ready session, on a memory that holds the shared words and the session's region: judged with reads alone, then committed.
-// Above: `machine`, whose turn is many of them; below: `judge`, which only reads, and `commit`, which only writes.
+// Above: `machine`, whose turn is many of them; below: `judge`, which only reads, `commit`, which only writes, and the place of a fault in `instruction`.
 use plan::Facts;
 use plan::Planned;
 use plan::Regs;
@@ -10,10 +10,10 @@ ghost use Rattle.pmachine.specs.Step.{judge, moved as Step·moved};
 ghost use Rattle.plan.specs.Answer.{regsOf, outcomeOf};
 ghost use Rattle.steps.specs.Memory.{Steady, Stood};
 
-// The registers after a step; a fault; or the end.
+// The registers after a step; a fault and its place; or the end.
 pub enum Stepped {
     Went(Regs),
-    Stuck(u8),
+    Stuck(u8, usize),
     Ended,
 }
 
@@ -55,7 +55,7 @@ pub fn step(
     r: Regs,
 ) -> Stepped
     requires { ⌜ Steady (now seg) facts (now mem) at end s r ⌝ }
-    ensures { λ q. ⌜ Stood (regsOf r) (judge (now (seg .entry)) (take s (now (mem .entry))) (part at end (now (mem .entry))) (regsOf r)) at end (now (mem .entry)) q (now (mem .exit)) ⌝ }
+    ensures { λ q. ⌜ Stood (now (seg .entry)) (regsOf r) (judge (now (seg .entry)) (take s (now (mem .entry))) (part at end (now (mem .entry))) (regsOf r)) at end (now (mem .entry)) q (now (mem .exit)) ⌝ }
 {
     match judge_in(mem, at, end, s, seg, facts, r) {
         Planned::Move(sp, next) => Stepped::Went(moved(r, sp, next)),
@@ -87,7 +87,8 @@ pub fn step(
             counter,
             routine,
         }),
-        Planned::Bad(n) => Stepped::Stuck(n),
+        // only a step that faults asks how far it fetched
+        Planned::Bad(n) => Stepped::Stuck(n, instruction::place_of(seg, n, r.counter)),
         Planned::Finish => Stepped::Ended,
     }
 }

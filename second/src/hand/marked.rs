@@ -2,7 +2,7 @@
 //! here", as far as they are requests.
 
 use super::{
-    at_record, fill_words, hand_segment, ready, set_bytes, set_words, Story, Table,
+    at_record, fill_words, hand_segment, most_first, ready, set_bytes, set_words, Story, Table,
 };
 use crate::bench::{Record, Slot};
 use crate::generate::SMALL;
@@ -17,7 +17,8 @@ const TURNED: [u8; 32] = [
 
 pub fn fill(t: &mut Table) {
     a_to_d(t);
-    e_to_j(t);
+    e(t);
+    f_to_j(t);
     the_small_run(t);
     its_turned_bytes(t);
     where_code_starts(t);
@@ -29,7 +30,7 @@ pub fn fill(t: &mut Table) {
 }
 
 /// The small segment, from byte 30 on with other code, then NOPs to W = 21.
-fn small_with(code: &[u8]) -> Vec<u8> {
+pub fn small_with(code: &[u8]) -> Vec<u8> {
     let mut bytes = SMALL.to_vec();
     bytes.resize(42, 156);
     set_bytes(&mut bytes, 30, &[156, 156]);
@@ -64,6 +65,11 @@ pub fn faulted(session: Session, number: u8) -> Session {
     Session { kind: Kind::Faulted { number, place: session.counter }, ..session }
 }
 
+/// Fault 1 at the first byte that could not be fetched.
+pub fn ran_out(session: Session, place: u64) -> Session {
+    Session { kind: Kind::Faulted { number: 1, place }, ..session }
+}
+
 /// LAO B pushes 5+B: in a region large enough it shows B itself.
 fn a_to_d(t: &mut Table) {
     t.says(r#""(a) B from 7F is 127; (b) 80 7F also 127, two bytes; (c) 80 80 is 128; (d) FF FF is 32,767""#);
@@ -85,12 +91,19 @@ fn a_to_d(t: &mut Table) {
     runs(story, 2, 2, ready(15, 1, 34, 1), &[(15, &[9])]).end();
 }
 
-fn e_to_j(t: &mut Table) {
-    t.says(r#""(e) B from 80 at the segment's end, fault 1""#);
-    let mut bytes = SMALL;
-    set_bytes(&mut bytes, 30, &[135, 0x80]);
-    let story = t.story("(e)", opened(&bytes, 16, 30));
-    runs(story, 5, 1, faulted(ready(16, 1, 30, 1), 1), &[]).end();
+/// LDL with a B from 80 as the segment's last two bytes, 2W = 32.
+fn e(t: &mut Table) {
+    t.says(r#""(e) B from 80 at the segment's end, fault 1"; 02, request 8: "Case (e) gains its place: 2W.""#);
+    let end = ran_out(ready(16, 1, 30, 1), 32);
+    for (name, mut bytes) in [("(e)", SMALL), ("(e) of the turned bytes", TURNED)] {
+        set_bytes(&mut bytes, 30, &[135, 0x80]);
+        let story = t.story(name, opened(&bytes, 16, 30));
+        let story = runs(story, 5, 1, end, &[]);
+        runs(story, 5, 0, end, &[]).end();
+    }
+}
+
+fn f_to_j(t: &mut Table) {
     // code, steps, SP after them and the words from there to 15
     let lines: [(&str, &'static str, &[u8], u64, &[u16]); 7] = [
         ("(f)", r#""(f) W from 34 12 is 4,660""#, &[129, 0x34, 0x12], 1, &[4_660]),
@@ -221,11 +234,9 @@ fn a_call_and_its_return(t: &mut Table) {
     ];
     runs(story, 5, 5, ready(40, 1, 37, 1), &words).end();
     // a most-first one calls alike
-    let mut most_first = bytes.clone();
-    for word in [0, 1, 6, 7, 8, 9, 10, 11, 12, 13, 14, 15, 16, 39, 40, 49, 50] {
-        most_first.swap(2 * word, 2 * word + 1);
-    }
-    let story = t.story("the same most byte first", opened(&most_first, 40, 34));
+    let mut turned = bytes.clone();
+    most_first(&mut turned);
+    let story = t.story("the same most byte first", opened(&turned, 40, 34));
     runs(story, 5, 5, ready(40, 1, 37, 1), &words).end();
     let story = t.story("step by step", opened(&bytes, 40, 34));
     let story = runs(story, 1, 1, ready(39, 1, 35, 1), &[(39, &[5])]);

@@ -368,9 +368,9 @@ fn eight_comes_before_4(t: &mut Table) {
 fn operands_come_first(t: &mut Table) {
     t.says(r#""All operands are fetched before a DB is judged."; 1 and 2 come before 8"#);
     for first in [144, 145, 146, 239, 240] {
-        t.rig_at(127, &[first], &[]).with_segment_word(13, 0).faults(1);
+        t.rig_at(127, &[first], &[]).with_segment_word(13, 0).runs_out();
     }
-    t.rig_at(126, &[146, 0], &[]).with_segment_word(13, 0).faults(1);
+    t.rig_at(126, &[146, 0], &[]).with_segment_word(13, 0).runs_out();
     for db in [128, 255] {
         without_2(t, &[146, db, 2]).faults(2);
     }

@@ -1,6 +1,7 @@
 -- `steps::step` meets its contract: what is judged is what is written. Assumes nothing.
-use mathlib.Core.Path.{refl}
+use mathlib.Core.Path.{refl, ap}
 use native.Mathlib.Omega.{arith}
+use Rattle.pmachine.specs.State.{faulted}
 use Rattle.pmachine.specs.Run.{written, settled}
 use Rattle.plan.specs.Answer.{outcomeOf}
 use Rattle.steps.proofs.Standing.{stands, room, same}
@@ -111,9 +112,10 @@ returns-6 c =
 returns-7 : tie.Need-returns-7
 unfolding outcomeOf settled
 returns-7 c =
-    let judged = c .before .before .before in
+    let told = c .before .before in
+    let judged = told .before .before in
     let steady = judged .before .before .before .before .pre in
-    stands steady (judged .judge-in .ensures) (c .before .n .given .1) (record { registers = refl; kind = refl; memory = same steady })
+    stands steady (judged .judge-in .ensures) (told .n .given .1) (record { registers = refl; kind = ap (faulted (told .n .given .0 .0)) (c .place-of .ensures); memory = same steady })
 
 returns-8 : tie.Need-returns-8
 unfolding outcomeOf settled
@@ -145,6 +147,7 @@ step-spec =
     put-mark-requires
     (λ c. search needs)
     (λ c. search needs)
+    (λ c κs. search needs)
     (λ c. search needs)
     (λ c. search needs)
     returns

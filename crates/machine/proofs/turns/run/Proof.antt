@@ -39,7 +39,7 @@ returns c =
     let start = test .before .before .before .before in
     let r = regsOf (test .before .loop .now) in
     going-stop (start .pre) (start .args .k) (test .before .loop .inv) (test .loop-test .taken) (went .step .ensures)
-    (ap (wentTo r) stuck) (sym (ap (cameTo r) stuck)) (ap (λ (z : Stepped). isReady (cameTo r z)) stuck) (c .after .ensures)
+    (ap (wentTo r) stuck) (sym (ap cameTo stuck)) (ap (λ (z : Stepped). isReady (cameTo z)) stuck) (c .after .ensures)
 
 same-length-2 : tie.Need-same-length-2 Inv-loop μ-loop
 same-length-2 c =
@@ -57,7 +57,7 @@ returns-2 c =
     let start = test .before .before .before .before in
     let r = regsOf (test .before .loop .now) in
     going-stop (start .pre) (start .args .k) (test .before .loop .inv) (test .loop-test .taken) (went .step .ensures)
-    (ap (wentTo r) ended) (sym (ap (cameTo r) ended)) (ap (λ (z : Stepped). isReady (cameTo r z)) ended) (c .after2 .ensures)
+    (ap (wentTo r) ended) (sym (ap cameTo ended)) (ap (λ (z : Stepped). isReady (cameTo z)) ended) (c .after2 .ensures)
 
 returns-3 : tie.Need-returns-3 Inv-loop μ-loop
 returns-3 c =
