@@ -3,7 +3,7 @@
 -- entries are these definitions is said by the functions of src/, which state every entry's contract again. docs/PROMISES.md follows this file.
 use mathlib.Core.Path.{_≡_}
 use mathlib.Core.Logic.{_↔_}
-use mathlib.Core.List.{List, [], _∷_, _++_, map}
+use mathlib.Core.List.{List, [], map}
 use mathlib.Core.Bool.{Bool, true, false, not, _||_}
 use Prim.Native.Nat.{ℕ, suc, _+_, _*_, _-_, _/_, _≤_, _<_}
 use lib.ListN.{length, getD, take, drop}
@@ -30,7 +30,7 @@ use Rattle.entry.specs.declared.Out.{Out}
 use Rattle.entry.specs.declared.Answer.{Answer}
 use Rattle.entry.specs.declared.Answer.the-variants.{Done, Refused}
 use Rattle.entry.specs.Answer.{answerRuling, Result, resultOf}
-use Rattle.entry.specs.Entries.{newOf, loadedAt, lenOk, recordFor, openOf, fresh, ranOf, doneOf, turnOf, openAt, closeOf}
+use Rattle.entry.specs.Entries.{newOf, loadedAt, lenOk, recordFor, openOf, fresh, openAt, closeOf}
 use Rattle.promises.specs.Requests.{Request, asked, checksFor}
 use Rattle.promises.specs.Words.{InRegion, Free, GapFrom}
 use Rattle.isolation.specs.Isolation.{Turn, after, answersOf, stepsOf, reported, reportsOf}

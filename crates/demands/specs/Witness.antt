@@ -10,9 +10,7 @@ use lib.ListN.{replicate, set, take, drop}
 use Rattle.machine.specs.declared.Kind.the-variants.{Ready, Finished, Faulted}
 use Rattle.sound.specs.Bench.{World, worldOf, sessionAt, wordsOf, at-cpu, at-sessions}
 use Rattle.sound.specs.Sound.{Sound}
-use Rattle.entry.specs.declared.Answer.{Answer}
 use Rattle.entry.specs.declared.Answer.the-variants.{Done, Refused}
-use Rattle.entry.specs.Answer.{Result}
 use Rattle.turning.specs.Turn.{turned}
 use Rattle.entry.specs.Entries.{newOf, loadedAt, loadOf, openOf, turnOf, closeOf}
 

@@ -1,5 +1,5 @@
 -- Where a step faults: the laws of specs/Places. Above: Demands, and whoever asks where the bytes ran out; below: Decoded, Judged, Keeps.
-use Prim.Native.Nat.{ℕ, zero, suc, _*_, _≤_, _<_}
+use Prim.Native.Nat.{ℕ, zero, suc}
 use native.Mathlib.Omega.{arith}
 use native.Mathlib.Decide.{decLe}
 use mathlib.Core.Path.{_≡_, refl, sym, ap, ap₂, _∙_, subst}
@@ -20,7 +20,7 @@ use Rattle.pmachine.specs.Run.{isReady, placeOf, settled, step, run}
 use Rattle.pmachine.specs.Sound.{Loaded}
 use Rattle.pmachine.specs.Places.{FaultPlace, FaultOne, FirstMissing, PlaceOutside, PlaceOthers, PlaceAtEnd}
 use Rattle.pmachine.proofs.Rows.{decided}
-use Rattle.pmachine.proofs.Decoded.{Reaches, reaches, outside-stays, past-outside}
+use Rattle.pmachine.proofs.Decoded.{reaches, outside-stays, past-outside}
 use Rattle.pmachine.proofs.Judged.{first-holds, Good, judge-good}
 use Rattle.pmachine.proofs.Keeps.{Whole, whole, step-whole}
 use Rattle.pmachine.proofs.Runs.{step-ready, run-none, run-suc}

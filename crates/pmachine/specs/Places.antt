@@ -9,7 +9,7 @@ use lib.ListN.{length}
 use Rattle.basis.specs.Bools.{inside}
 use Rattle.segment.specs.Head.{words}
 use Rattle.pmachine.specs.State.{Registers, faulted, State}
-use Rattle.pmachine.specs.Decoding.{faulty, decode, fetchesTo}
+use Rattle.pmachine.specs.Decoding.{faulty, decode}
 use Rattle.pmachine.specs.Step.{fault, judge}
 use Rattle.pmachine.specs.Run.{isReady, placeOf, step, run}
 use Rattle.pmachine.specs.Sound.{inRange, Loaded}

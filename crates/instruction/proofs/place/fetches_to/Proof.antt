@@ -1,6 +1,5 @@
 -- `instruction::place::fetches_to` meets its contract: what stands at the byte tells how far a step fetches. Assumes nothing.
-use native.Mathlib.Omega.{arith}
-use mathlib.Core.Path.{_≡_, ap, sym, _∙_}
+use mathlib.Core.Path.{ap, sym, _∙_}
 use borrow.Author.Needs.{needs}
 use Rattle.instruction.specs.declared.Instruction.{Instruction}
 use Rattle.instruction.proofs.Places.{below-code, carried-to, uncarried-to}

@@ -1,5 +1,4 @@
 -- `instruction::place::place_of` meets its contract: fault 1 has a place of its own, every other the instruction's first byte. Assumes nothing.
-use mathlib.Core.Path.{_∙_, sym}
 use borrow.Author.Needs.{needs}
 use borrow.Author.Tests.{eq-eqb, ne-eqb}
 use Rattle.pmachine.specs.Run.{placeOf}
