@@ -3,13 +3,12 @@
 //! wrong, and so are soundness and the turns of records made before.  With
 //! nothing wrong the reading answers as the interpreter does.
 
-use second::cases::Writer;
+mod requests;
+
 use second::cut::possible_cuts;
 use second::hand::carried;
 use second::machine::{instruction, Form, Kind, Session};
-use second::reader::{request_of, Reader};
 use second::segment::{Segment, Sex};
-use second::set::Set;
 use second::world::{ask, Call, Request, World};
 use std::sync::OnceLock;
 
@@ -41,24 +40,11 @@ struct Asked {
     worlds: Vec<(World, Option<(usize, u64)>)>,
 }
 
-/// The requests of the committed set, but for its products.
 fn asked() -> &'static Asked {
     static ASKED: OnceLock<Asked> = OnceLock::new();
     ASKED.get_or_init(|| {
-        let mut questions = Vec::new();
-        let mut writer = Writer::new(&mut questions, std::io::sink(), None);
-        Set::new(&mut writer, 1).committed().unwrap();
-        drop(writer);
-        let text = String::from_utf8(questions).unwrap();
-        let end = text.find("\n# products").unwrap();
-        let mut reader = Reader::default();
         let mut asked = Asked::default();
-        for line in text[..end].lines() {
-            if let Some(request) = request_of(line) {
-                note(&mut asked, &reader.world, request);
-            }
-            reader.line(line);
-        }
+        requests::each(|world, request| note(&mut asked, world, request));
         asked
     })
 }

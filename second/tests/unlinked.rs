@@ -3,12 +3,11 @@
 //! one thing is wrong, and held against the set.  With nothing wrong the
 //! reading answers as the interpreter does.
 
-use second::cases::Writer;
+mod requests;
+
 use second::generate::put_word;
 use second::machine::{self, Kind, Op};
-use second::reader::{request_of, Reader};
 use second::segment::{turn_over, Segment, Sex};
-use second::set::Set;
 use second::world::{Call, Request, World};
 use std::collections::BTreeSet;
 use std::sync::OnceLock;
@@ -27,35 +26,27 @@ struct Asked {
     sound: Vec<World>,
 }
 
-/// The requests of the committed set, but for its products.
 fn asked() -> &'static Asked {
     static ASKED: OnceLock<Asked> = OnceLock::new();
     ASKED.get_or_init(|| {
-        let mut questions = Vec::new();
-        let mut writer = Writer::new(&mut questions, std::io::sink(), None);
-        Set::new(&mut writer, 1).committed().unwrap();
-        drop(writer);
-        let text = String::from_utf8(questions).unwrap();
-        let end = text.find("\n# products").unwrap();
-        let mut reader = Reader::default();
         let mut asked = Asked::default();
-        for line in text[..end].lines() {
-            let world = &reader.world;
-            match request_of(line) {
-                Some(Request::Judge) => asked.judged.push(world.store.clone()),
-                Some(Request::TurnOver(output)) if output >= world.store.len() as u64 => {
-                    asked.turned.push(world.store.clone());
-                }
-                Some(Request::Sound) if world.memory.len() < 100_000 => asked.sound.push(world.clone()),
-                Some(Request::Entry(Call::Turn { session, k: 1 })) if is_call(world, session) => {
-                    asked.steps.push((world.clone(), session as usize));
-                }
-                _ => {}
-            }
-            reader.line(line);
-        }
+        requests::each(|world, request| note(&mut asked, world, request));
         asked
     })
+}
+
+fn note(asked: &mut Asked, world: &World, request: Request) {
+    match request {
+        Request::Judge => asked.judged.push(world.store.clone()),
+        Request::TurnOver(output) if output >= world.store.len() as u64 => {
+            asked.turned.push(world.store.clone());
+        }
+        Request::Sound if world.memory.len() < 100_000 => asked.sound.push(world.clone()),
+        Request::Entry(Call::Turn { session, k: 1 }) if is_call(world, session) => {
+            asked.steps.push((world.clone(), session as usize));
+        }
+        _ => {}
+    }
 }
 
 /// Whether a sound bench's session is about to call.
