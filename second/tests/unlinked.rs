@@ -28,11 +28,7 @@ struct Asked {
 
 fn asked() -> &'static Asked {
     static ASKED: OnceLock<Asked> = OnceLock::new();
-    ASKED.get_or_init(|| {
-        let mut asked = Asked::default();
-        requests::each(|world, request| note(&mut asked, world, request));
-        asked
-    })
+    requests::picked(&ASKED, note)
 }
 
 fn note(asked: &mut Asked, world: &World, request: Request) {

@@ -1,5 +1,5 @@
 // Why a session faulted, in one plain sentence with the numbers of the instruction and of the session.
-// Above it: what is told of a fault. Below it: `cause`, which finds the check that failed, its sentence, and `pond_rules`.
+// Above it: what is told of a fault. Below it: `cause`, which finds the check that failed, `instruction`, which knows its place, the sentences, and `pond_rules`.
 use crate::said;
 use plan::Regs;
 
@@ -7,11 +7,10 @@ use plan::Regs;
 pub fn reason(seg: &[u8], region: &[u16], shared: usize, regs: Regs, number: u8, place: usize) {
     let n = cause::numbers_of(seg, region.len(), shared, regs);
     let w = cause::first_failing(seg, region, n);
-    if !instruction::is_recorded(seg, regs.counter, cause::fault_of(w), number, place) {
-        pond_rules::fault(number);
-    } else if !n.kept {
-        pond_rules::fault(number);
-    } else {
+    let found = if n.kept { cause::fault_of(w) } else { 0 };
+    if instruction::is_recorded(seg, regs.counter, found, number, place) {
         said::why(n, w);
+    } else {
+        pond_rules::fault(number);
     }
 }

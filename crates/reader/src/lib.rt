@@ -1,5 +1,5 @@
 // The reader: a bounded view of one segment with a reading place, so that no caller adds offsets by hand.
-// Below: the operands. Above: `instruction`, and so listings and what is told of a fault.
+// Below: the operands. Above: `instruction`, and so listings, the place of a fault and what is told of it.
 // `next` takes the struct apart and calls a function on the slice and numbers; `read_at` is for callers with a slice and numbers.
 use operand::Operand;
 ghost use mathlib.Core.Path.{_≡_};

@@ -5,10 +5,20 @@ use second::cases::Writer;
 use second::reader::{request_of, Reader};
 use second::set::Set;
 use second::world::{Request, World};
+use std::sync::OnceLock;
+
+/// What a test notes of the set, picked once for all that it tries.
+pub fn picked<T: Default>(cell: &'static OnceLock<T>, note: fn(&mut T, &World, Request)) -> &'static T {
+    cell.get_or_init(|| {
+        let mut all = T::default();
+        each(|world, request| note(&mut all, world, request));
+        all
+    })
+}
 
 /// Each request of the committed set, but for its products, and the world that
 /// it is asked of.
-pub fn each(mut note: impl FnMut(&World, Request)) {
+fn each(mut note: impl FnMut(&World, Request)) {
     let mut questions = Vec::new();
     let mut writer = Writer::new(&mut questions, std::io::sink(), None);
     Set::new(&mut writer, 1).committed().unwrap();
