@@ -1,6 +1,7 @@
 #!/usr/bin/env python3
 # Makes the example files beside it (small.seg is document 01's and is not made): two farms' reports on a shared archive, the two reports
-# of the spring accident, a mean that divides by the number of readings, a report with a routine that was never linked, and a segment that is refused.
+# of the spring accident, a mean that divides by the number of readings, a report with a routine that was never linked, a segment that is refused, and a
+# report that finds the units of its readings in a constant pool, in both byte sexes.
 # `make-examples.py --demo` prints the bytes that stand as constants in crates/pond_run/src/farms.rt.
 import os
 import sys
@@ -72,6 +73,72 @@ PRINTED = [
 ]
 
 
+# A report on readings of several kinds. Shared word 0 is their number; then each has two words, its kind and its value. For each of them three words go
+# into the report's own: the value in whole units, and the unit's four letters.
+#
+# A segment with a pool cannot be turned, so it is made in both byte sexes here. The pool holds two sorts of constants, and the mode of an LDC says which
+# it reads. A number is a word: it is written in the segment's byte sex, and mode 2 reads it so. Letters are bytes, two to a word, and their order is the
+# same in every file: any other mode takes them as they stand. So both files leave the same words.
+BYTES, NUMBERS = 0, 2
+UNITS = ['C   ', 'mg/l', 'pH  ', '?   ']                        # the kinds 1, 2 and 3, and every other
+POOL_UNIT = [1, 3, 5, 7]                                        # where in the pool a unit's two words stand; word 0 says that there is no real pool
+POOL_TEN, POOL_ONE, POOL_TABLE = 9, 10, 11                      # two numbers to divide by; the case table: its lowest index, its highest, its distances
+
+
+def units():
+    """The code, and the distances of its case table. Globals: 1 address of the next reading, 2 readings left, 3 address of the next line, 4 and 5 letters,
+    6 what to divide by, and the lines from 7 on."""
+    start = [
+        0x81, 0, 0x80, 0x78, 0xA5, 2,   # LDCI 32768 SIND0 SRO 2
+        0x81, 1, 0x80, 0xA5, 1,         # LDCI 32769 SRO 1
+        0x86, 7, 0xA5, 3,               # LAO 7 SRO 3
+    ]
+    test = [0x31, 0x00, 0xB1]           # SLDO2 SLDC0 NEQI: is one left?
+    chosen = [0x30, 0x78, 0xD6, POOL_TABLE]                     # SLDO1 SIND0 XJP: by its kind
+
+    def arm(unit, divisor):
+        return [0x83, BYTES, POOL_UNIT[unit], 2, 0x83, NUMBERS, divisor, 1]     # LDC of the letters, LDC of the number
+
+    store = [
+        0xA5, 6, 0xA5, 5, 0xA5, 4,      # SRO 6 SRO 5 SRO 4
+        0x32, 0x30, 0x79, 0x35, 0x8D, 0xC4,     # SLDO3 SLDO1 SIND1 SLDO6 DVI STO: the value
+        0x32, 0xED, 0x33, 0xC4,         # SLDO3 INCI SLDO4 STO: the first two letters
+        0x32, 0xED, 0xED, 0x34, 0xC4,   # SLDO3 INCI INCI SLDO5 STO: the other two
+        0x32, 0x03, 0xA2, 0xA5, 3,      # SLDO3 SLDC3 ADI SRO 3: the next line
+        0x30, 0x02, 0xA2, 0xA5, 1,      # SLDO1 SLDC2 ADI SRO 1: the next reading
+        0x31, 0xEE, 0xA5, 2,            # SLDO2 DECI SRO 2: one less
+    ]
+    # the other kinds come first, since an index out of the table's range goes on with the next instruction; each arm but the last jumps over those behind it
+    divisors = [POOL_ONE, POOL_TEN, POOL_TEN, POOL_TEN]
+    arms = [arm(unit, divisor) for unit, divisor in zip([3, 0, 1, 2], divisors)]
+    size = len(arms[0]) + 2
+    body = []
+    for k, one in enumerate(arms):
+        left = len(arms) - 1 - k
+        body += one + ([0x8A, size * left - 2] if left else [])                 # UJP
+    distances = [size * k for k in (1, 2, 3)]
+    loop = chosen + body + store
+    back = len(test) + 2 + len(loop) + 2
+    loop += [0x8A, 256 - back]                                  # UJP to the test
+    return start + test + [0xD4, len(loop)] + loop + [0x96, 0], distances       # FJP to the RPU 0
+
+
+def with_pool(name, datasize, code, pool, sex):
+    """The same segment with a constant pool behind the code. In the pool a number stands for a word of the segment's byte sex, and a text for its bytes."""
+    out = bytearray(segment(name, datasize, code, sex))
+    out[14:16] = (len(out) // 2).to_bytes(2, sex)
+    for part in pool:
+        out += part.encode() if isinstance(part, str) else part.to_bytes(2, sex)
+    return bytes(out)
+
+
+def report_with_units(sex):
+    code, distances = units()
+    return with_pool('UNITS', 18, code, [0, *UNITS, 10, 1, 1, 3, *distances], sex)
+
+
+KINDS = [4, 1, 173, 2, 92, 9, 5, 3, 71]     # 17.3 C, 9.2 mg/l, 5 of a kind that the report does not know, 7.1 pH
+
 STALE = 46
 READS = [0x81, STALE, 0, 0x78, 0xA5, 1, 0x96, 0]                # LDCI 46 SIND0 SRO 1 RPU 0
 WRITES = [0x81, STALE, 0, 0x00, 0xC4, 0x96, 0]                  # LDCI 46 SLDC0 STO RPU 0
@@ -85,7 +152,10 @@ FILES = {
     'mean.seg': segment('MEAN', 1, MEAN),
     'unlinked.seg': two_routines('UNLINKED', [15, 0], PRINTED),
     'no-start.seg': two_routines('NO-START', [0, 15], PRINTED),
+    'units.seg': report_with_units(LEAST),
+    'units-most.seg': report_with_units(MOST),
     'empty.words': bytes(4),
+    'units.words': b''.join(w.to_bytes(2, LEAST) for w in KINDS),
     'archive.words': b''.join(w.to_bytes(2, LEAST) for w in ARCHIVE),
 }
 

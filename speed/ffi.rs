@@ -17,12 +17,12 @@ const FAULTED: u64 = 2;
 pub unsafe extern "C" fn turn_rust(mem: *mut u16, nmem: u64, seg: *const u8, nseg: u64, regs: *mut u64, k: u64) -> u64 {
     let mem = std::slice::from_raw_parts_mut(mem, nmem as usize);
     let seg = std::slice::from_raw_parts(seg, nseg as usize);
-    turn(mem, seg, &mut *(regs as *mut [u64; 16]), k)
+    turn(mem, seg, &mut *(regs as *mut [u64; 17]), k)
 }
 
 /// A turn of at most `k` steps; it returns the steps done. The numbers of `regs` are those of pm.h.
-fn turn(mem: &mut [u16], seg: &[u8], regs: &mut [u64; 16], k: u64) -> u64 {
-    let [base, l, s, w2, d, n, g, sex, sp, m, ipc, proc, kind, fault, place, pool] = regs;
+fn turn(mem: &mut [u16], seg: &[u8], regs: &mut [u64; 17], k: u64) -> u64 {
+    let [base, l, s, w2, d, n, g, sex, sp, m, ipc, proc, kind, fault, place, pool, reals] = regs;
     if *kind != READY {
         return 0;
     }
@@ -31,6 +31,7 @@ fn turn(mem: &mut [u16], seg: &[u8], regs: &mut [u64; 16], k: u64) -> u64 {
         dictionary: *d as usize,
         count: *n as usize,
         pool: *pool as usize,
+        real_start: *reals as usize,
         globals: *g as usize,
         most_first: *sex != 0,
     };

@@ -36,10 +36,28 @@ static uint16_t any_word(void) {
 }
 /* First bytes that are carried, so that damage reaches every instruction. */
 static uint8_t any_opcode(void) {
-    static const uint8_t long_form[] = { 128, 129, 130, 132, 133, 134, 135, 136, 137, 138, 139, 140, 141, 143, 144, 145, 146, 150, 152, 156, 160, 161,
-        162, 163, 164, 165, 166, 173, 174, 176, 177, 178, 179, 180, 181, 189, 196, 203, 212, 213, 224, 225, 226, 229, 230, 237, 238, 239, 240, 241 };
+    static const uint8_t long_form[] = { 128, 129, 130, 131, 132, 133, 134, 135, 136, 137, 138, 139, 140, 141, 143, 144, 145, 146, 150, 152, 156, 160, 161,
+        162, 163, 164, 165, 166, 173, 174, 176, 177, 178, 179, 180, 181, 189, 196, 203, 212, 213, 214, 224, 225, 226, 229, 230, 237, 238, 239, 240, 241 };
     uint32_t c = any(10);
     return c == 0 ? any(64) : c == 1 ? 96 + any(16) : c == 2 ? 120 + any(8) : c == 3 ? any(256) : long_form[any(sizeof long_form)];
+}
+/* Whether a word of the segment is a number that loading judges: then no other may be put there. */
+static int judged(uint32_t k) {
+    for (uint32_t i = 1; i <= routines; i++) if (k == entry[i] || k == entry[i] - 1) return 1;
+    return k < 11 || (k >= dict && k <= dict + routines);
+}
+/* The pool is left, moved or taken away, and its words often replaced by small ones, so that there are case tables; its first word stays lawful. */
+static void damaged_pool(void) {
+    const uint32_t w = w2 / 2;
+    if (any(3)) pool = any(3) ? 11 + any(w - 11) : 0;
+    uint32_t small = any(2) ? 2 + any(12) : 0;
+    for (uint32_t i = 1; i < small && pool && pool + i < w; i++) if (!judged(pool + i)) put(pool + i, any(8) - 2);
+    if (pool && !judged(pool)) {
+        if (any(2) || get(pool) >= w - pool) put(pool, any(2) && w - pool > 1 ? 1 + any(w - pool - 1) : 0);
+    }
+    if (pool && get(pool) >= w - pool) pool = 0;
+    put(7, pool);
+    regs0[R_POOL] = pool; regs0[R_REALS] = reals();
 }
 /* A program with some of its code bytes, its pool, its registers and its words replaced, and some routines not linked; segment and session stay sound. */
 static void damaged(int it) {
@@ -55,8 +73,8 @@ static void damaged(int it) {
     uint32_t more = any(3) ? 0 : 2 * (1 + any(2));
     for (uint32_t i = 0; i < more; i++) seg[w2++] = any(3) ? any_opcode() : any(256);
     regs0[R_W2] = w2;
-    uint32_t pool = any(3) ? 11 + any(w2 / 2 - 11) : 0, floor = 6 + regs0[R_G];
-    put(7, pool); regs0[R_POOL] = pool;
+    damaged_pool();
+    uint32_t floor = 6 + regs0[R_G];
     if (any(3) == 0) regs0[R_SP] = floor + any(12);
     if (any(3) == 0) regs0[R_SP] = L - any(4);
     if (any(4) == 0) regs0[R_M] = 1 + any(L - 5);
@@ -78,6 +96,10 @@ static int same(int i, uint64_t done, const char *on, int it) {
 }
 static void keep(uint64_t done) { want_done = done; memcpy(want_mem, mem, sizeof mem); memcpy(want, regs, sizeof regs); }
 
+/* An earlier proved turn may not carry what a later program uses: there it is neither compared nor timed. */
+static int left_out[NI][PROGRAMS];
+static int is_before(int i) { return !strcmp(IMPL[i].name, "before"); }
+
 /* The programs, in seven turns of growing length: none of them ends or faults. */
 static int compare_programs(void) {
     int good = 1;
@@ -88,7 +110,8 @@ static int compare_programs(void) {
             uint64_t done = 0;
             for (int t = 0; t < 7; t++) done += IMPL[i].turn(mem, N, seg, w2, regs, t * 9001);
             if (i == 0) keep(done);
-            good &= same(i, done, PROGRAM[p], p);
+            left_out[i][p] = is_before(i) && regs[R_KIND] == FAULTED;
+            good &= left_out[i][p] || same(i, done, PROGRAM[p], p);
         }
         good &= want[R_KIND] == READY;
     }
@@ -111,7 +134,7 @@ static int compare_damaged(long *faults, long *stepped, long *cut) {
         faults[regs[R_FAULT]]++;
         *cut += regs[R_FAULT] == 1 && regs[R_PLACE] != regs[R_IPC];
         for (int i = 0; i < NI && good; i++) {
-            if (!strcmp(IMPL[i].name, "before")) continue;
+            if (is_before(i)) continue;
             fresh();
             good &= same(i, IMPL[i].turn(mem, N, seg, w2, regs, 60), "damaged", it);
         }
@@ -145,25 +168,29 @@ static void measure(int rounds, uint64_t k) {
         program(p);
         for (int i = 0; i < NI; i++) best[i][p] = 1e18;
         for (int t = 0; t < rounds; t++) for (int i = 0; i < NI; i++) {
+            if (left_out[i][p]) continue;
             double ns = timed(i, k);
             if (ns < best[i][p]) best[i][p] = ns;
         }
     }
 }
-/* A row an implementation: ns a step, or with `base` its ratio to that implementation and their geometric mean. */
+/* A row an implementation: ns a step, or with `base` its ratio to that implementation and their geometric mean; a dash if it is left out. */
 static void table(const char *what, int base) {
     printf("%-12s", what);
     for (int p = 0; p < PROGRAMS; p++) printf("%9s", PROGRAM[p]);
     puts(base < 0 ? "" : "     mean");
     for (int i = 0; i < NI; i++) {
         double mean = 0;
+        int timed_on = 0;
         printf("  %-10s", IMPL[i].name);
         for (int p = 0; p < PROGRAMS; p++) {
+            if (left_out[i][p]) { printf("%9s", "-"); continue; }
             double x = base < 0 ? best[i][p] : best[i][p] / best[base][p];
             printf("%9.3f", x);
-            mean += log(x) / PROGRAMS;
+            mean += log(x);
+            timed_on++;
         }
-        if (base < 0) puts(""); else printf("%9.3f\n", exp(mean));
+        if (base < 0) puts(""); else printf("%9.3f\n", exp(mean / timed_on));
     }
 }
 

@@ -1,5 +1,5 @@
 /* The C baseline: one switch in a loop, registers in locals, the checks that the documented faults ask and no others.
-   Compile it with -DTURN=name to give the function another name. Two GNU forms are used: case ranges, and labels for leaving. */
+   Compile it with -DTURN=name to give the function another name. Three GNU forms are used: case ranges, labels for leaving, and noinline. */
 #include "pm.h"
 #ifndef TURN
 #define TURN turn_clang
@@ -9,6 +9,12 @@
 static inline uint32_t seg_word(const uint8_t *seg, uint32_t k, int most_first) {
     uint32_t a = seg[2 * k], b = seg[2 * k + 1];
     return most_first ? a << 8 | b : b << 8 | a;
+}
+
+/* The words of an LDC, pushed one after another; the new SP. Apart from the loop, since within it the loop over the words takes registers from every step. */
+static __attribute__((noinline)) uint32_t push_block(uint16_t *reg, uint32_t sp, const uint8_t *from, uint32_t count, int swapped) {
+    for (; count > 0; count--, from += 2) reg[--sp] = seg_word(from, 0, swapped);
+    return sp;
 }
 
 /* Every check below leaves the step by FAULT; their order in a case is the documented order of faults. */
@@ -56,7 +62,8 @@ static inline uint32_t seg_word(const uint8_t *seg, uint32_t k, int most_first) 
 uint64_t TURN(uint16_t *mem, uint64_t nmem, const uint8_t *seg, uint64_t nseg, uint64_t *r, uint64_t k) {
     (void)nmem; (void)nseg;
     if (r[R_KIND] != READY) return 0;
-    const uint32_t l = r[R_L], s = r[R_S], w2 = r[R_W2], d = r[R_D], n = r[R_N], floor = 6 + r[R_G], pool = r[R_POOL];
+    const uint32_t l = r[R_L], s = r[R_S], w2 = r[R_W2], d = r[R_D], n = r[R_N], floor = 6 + r[R_G];
+    const uint32_t pool = r[R_POOL], reals = r[R_REALS];
     const int most_first = r[R_SEX] != 0;
     uint16_t *const reg = mem + r[R_BASE];
     uint32_t sp = r[R_SP], m = r[R_M], ipc = r[R_IPC], proc = r[R_PROC];
@@ -78,6 +85,15 @@ uint64_t TURN(uint16_t *mem, uint64_t nmem, const uint8_t *seg, uint64_t nseg, u
         case 128: UB(x); PUSH(x); break;                                       /* LDCB */
         case 129: WORD(x); PUSH(x); break;                                     /* LDCI */
         case 130: BIG(x); if (pool == 0 || pool + x >= w2 / 2) FAULT(6); PUSH(pool + x); break; /* LCO */
+        case 131: {                                                            /* LDC */
+            uint32_t mode, count;
+            UB(mode); BIG(x); UB(count);
+            x += pool;
+            if (pool == 0 || (count > 0 && x + count > reals)) FAULT(6);
+            if (sp < floor + count) FAULT(4);
+            sp = push_block(reg, sp, seg + 2 * x, count, mode == 2 && most_first);
+            break;
+        }
         case 132: BIG(x); ADDRESS(m, x); break;                                /* LLA */
         case 133: BIG(x); LOAD(1, x); break;                                   /* LDO */
         case 134: BIG(x); ADDRESS(1, x); break;                                /* LAO */
@@ -135,6 +151,19 @@ uint64_t TURN(uint16_t *mem, uint64_t nmem, const uint8_t *seg, uint64_t nseg, u
         }
         case 212: UB(x); JUMP_IF(0, (int8_t)x); break;                         /* FJP */
         case 213: WORD(x); JUMP_IF(0, (int16_t)x); break;                      /* FJPL */
+        case 214: {                                                            /* XJP */
+            BIG(x); NEED(1);
+            x += pool;
+            if (x + 2 > reals) FAULT(6); /* with no pool that is so for any x */
+            int32_t index = (int16_t)reg[sp], least = (int16_t)seg_word(seg, x, most_first);
+            if (index >= least && index <= (int16_t)seg_word(seg, x + 1, most_first)) {
+                x += 2 + (index - least);
+                if (x >= reals) FAULT(6);
+                JUMP((int16_t)seg_word(seg, x, most_first));
+            }
+            sp++;
+            break;
+        }
         case 224: UNARY((int16_t)a < 0 ? -a : a); break;                       /* ABI */
         case 225: UNARY(-a); break;                                            /* NGI */
         case 226: NEED(1); PUSH(reg[sp]); break;                               /* DUP1 */

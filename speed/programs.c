@@ -3,9 +3,9 @@
 #include "programs.h"
 #include <string.h>
 
-const char *const PROGRAM[PROGRAMS] = { "sum", "fib", "scan", "mixed", "records", "choice", "totals" };
+const char *const PROGRAM[PROGRAMS] = { "sum", "fib", "scan", "mixed", "records", "choice", "totals", "units" };
 uint8_t seg[SEGMENT];
-uint32_t w2, dict, routines, entry[ROUTINES + 1], most_first;
+uint32_t w2, dict, routines, entry[ROUTINES + 1], pool, most_first;
 uint16_t mem0[N], mem[N];
 uint64_t regs0[R_COUNT], regs[R_COUNT];
 
@@ -14,14 +14,22 @@ void put(uint32_t k, uint32_t v) {
     seg[2 * k] = most_first ? v >> 8 : v;
     seg[2 * k + 1] = most_first ? v : v >> 8;
 }
+uint32_t get(uint32_t k) {
+    return most_first ? seg[2 * k] << 8 | seg[2 * k + 1] : seg[2 * k + 1] << 8 | seg[2 * k];
+}
+uint32_t reals(void) {
+    if (pool == 0) return 0;
+    return get(pool) == 0 ? w2 / 2 : pool + get(pool);
+}
 
-/* Building: begin, then each routine in order, then session. The first routine's entry is word 13. */
+/* Building: begin, then each routine in order, the pool if there is one, then session. The first routine's entry is word 13. */
 static uint32_t at;
 static void begin(void) {
     memset(seg, 0, sizeof seg);
     put(6, 1);
     at = 12;
     routines = 0;
+    pool = 0;
 }
 /* The next routine: its EXITIC (any byte of the code), DATASIZE and bytes. */
 static void routine(const uint8_t *bytes, uint32_t n, uint32_t size) {
@@ -32,16 +40,18 @@ static void routine(const uint8_t *bytes, uint32_t n, uint32_t size) {
     at += 2 + (n + 1) / 2;
 }
 #define ROUTINE(bytes, size) routine(bytes, sizeof bytes, size)
-/* The dictionary behind the code, no pool, and a fresh session of routine 1, whose DATASIZE is `globals`. */
+/* The dictionary behind the code and the pool, and a fresh session of routine 1, whose DATASIZE is `globals`. */
 static void session(uint32_t globals) {
     dict = at;
     put(0, dict);
     put(dict, routines);
     for (uint32_t k = 1; k <= routines; k++) put(dict + k, entry[k]);
     w2 = 2 * (dict + routines + 1);
+    put(7, pool);
     memset(mem0, 0, sizeof mem0);
     for (uint32_t i = 0; i < S; i++) mem0[i] = i * 2654435761u >> 7;
-    const uint64_t r[R_COUNT] = { BASE, L, S, w2, dict, routines, globals, most_first, L, 1, 2 * (entry[1] + 1), 1, READY, 0, 0, 0 };
+    const uint64_t r[R_COUNT] = { BASE, L, S, w2, dict, routines, globals, most_first, L, 1, 2 * (entry[1] + 1), 1, READY, 0, 0,
+        pool, reals() };
     memcpy(regs0, r, sizeof r);
 }
 void fresh(void) {
@@ -162,8 +172,73 @@ static void totals(void) {
     ROUTINE(b, 4); ROUTINE(STUB, 0); session(4);
 }
 
+/* units: a report that prints its readings' units from the constant pool. A record is four shared words; for each a CASE over three bits, whose
+   table the pool has, chooses one of six units or, for 0 and 7, the other values. An arm loads its block of two to four words: characters
+   as they lie (mode 0), which it stores in the line, or numbers (mode 2), which it adds up. One step in 6.7 is LDC or XJP. */
+enum { FIELDS = 4, KINDS = 6, TABLE = 2 + KINDS, CHARACTERS = 1 + FIELDS * TABLE, NUMBERS = CHARACTERS + 18, REALS = NUMBERS + 18 };
+/* The unit that kind i has, from 0: its words, and where they lie behind the first unit's. */
+static uint32_t unit_words(uint32_t i) { return 2 + i % 3; }
+static uint32_t unit_place(uint32_t i) { return 9 * (i / 3) + (i % 3 == 0 ? 0 : i % 3 == 1 ? 2 : 5); }
+
+/* An arm with a jump to the end, `to` bytes behind it; the bytes it has. */
+static uint32_t units_arm(uint8_t *b, uint32_t field, uint32_t i, uint32_t to) {
+    const uint32_t numbers = (field + i) % 2, n = unit_words(i);
+    uint32_t k = 0;
+    b[k++] = 131; b[k++] = numbers ? 2 : 0;                 /* LDC */
+    b[k++] = (numbers ? NUMBERS : CHARACTERS) + unit_place(i); b[k++] = n;
+    for (uint32_t j = n; j > 0; j--)
+        b[k++] = !numbers ? 105 + j : j > 1 ? 162 : 105;    /* SSTL n+2 down to 3; or ADI as often as it goes, SSTL 2 */
+    b[k++] = 138; b[k++] = to;                              /* UJP to the end */
+    return k;
+}
+/* The CASE over one field of the record, with its table in `table`; the bytes it has. */
+static uint32_t units_case(uint8_t *b, uint32_t field, uint16_t *table) {
+    const uint8_t head[] = { 32, 120 + field, 7, 161, 214, 1 + field * TABLE };  /* SLDL 1, SIND, SLDC 7, LAND, XJP */
+    uint32_t k = sizeof head, end = sizeof head + 5;
+    memcpy(b, head, sizeof head);
+    for (uint32_t i = 0; i < KINDS; i++) end += 6 + unit_words(i);
+    table[0] = 1; table[1] = KINDS;
+    const uint8_t other[] = { 39, 237, 111, 138, end - (k + 5) };  /* the other values: SLDL 8, INCI, SSTL 8, UJP to the end */
+    memcpy(b + k, other, sizeof other);
+    k += sizeof other;
+    for (uint32_t i = 0; i < KINDS; i++) {
+        table[2 + i] = k - sizeof head;
+        k += units_arm(b + k, field, i, end - (k + 6 + unit_words(i)));
+    }
+    return k;
+}
+/* The pool behind the code: its tables, the units' characters, which lie alike in both byte sexes, their numbers, and a real pool of one number. */
+static void units_pool(const uint16_t *tables) {
+    static const char characters[37] = "mg/lmmol/lg per l ppm %     degrees ";
+    pool = at;
+    put(pool, REALS);
+    for (uint32_t i = 0; i < FIELDS * TABLE; i++) put(pool + 1 + i, tables[i]);
+    memcpy(seg + 2 * (pool + CHARACTERS), characters, 36);
+    for (uint32_t i = 0; i < 18; i++) put(pool + NUMBERS + i, 1000 * i + 1);
+    put(pool + REALS, 1);
+    at = pool + REALS + 4;
+}
+static void units(void) {
+    static const uint8_t head[] = { 129, 0, 128, 104 };     /* LDCI 32768, SSTL 1: the first record */
+    uint16_t tables[FIELDS * TABLE];
+    uint8_t b[400];
+    uint32_t n = sizeof head;
+    memcpy(b, head, n);
+    for (uint32_t field = 0; field < FIELDS; field++) n += units_case(b + n, field, tables + field * TABLE);
+    const uint32_t next = sizeof head - (n + 12), first = 0 - (n + 15);
+    const uint8_t tail[] = {
+        32, 4, 162, 226, 104, 129, 0, 144, 176,             /* SLDL 1, SLDC 4, ADI, DUP1, SSTL 1: the next record; LDCI 36864, EQUI */
+        213, next & 255, next >> 8 & 255,                   /* FJPL to the next record */
+        139, first & 255, first >> 8 & 255 };               /* UJPL to the first */
+    memcpy(b + n, tail, sizeof tail);
+    routine(b, n + sizeof tail, 8);
+    ROUTINE(STUB, 0);
+    units_pool(tables);
+    session(8);
+}
+
 void program(int p) {
-    static void (*const builds[PROGRAMS])(void) = { sum, fib, scan, mixed, records, choice, totals };
+    static void (*const builds[PROGRAMS])(void) = { sum, fib, scan, mixed, records, choice, totals, units };
     begin();
     builds[p]();
 }

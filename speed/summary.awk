@@ -12,7 +12,7 @@ function row(key, title, ratio,    p, m) {
     printf "| %s |", title
     for (p = 1; p <= width[key]; p++) {
         m = median(key, p)
-        if (ratio) printf " %.2f to %.2f, %.2f |", low, high, m; else printf " %.2f, %.2f |", low, m
+        if (value[key, 1, p] == "-") printf " - |"; else if (ratio) printf " %.2f to %.2f, %.2f |", low, high, m; else printf " %.2f, %.2f |", low, m
     }
     print ratio ? "" : " |"
 }

@@ -69,20 +69,49 @@ def unlinked(*code):
 
 # what is not carried, by appendix B: instructions with operands of every form, an unused number, what is told of native code, native code;
 # and one that the end of the segment cuts off
-LDC, CXI, LSL, NAT, NAT_INFO, EQBYT, EFJ, MOV, XJP = 131, 149, 153, 168, 169, 185, 210, 197, 214
+CXI, LSL, NAT, NAT_INFO, EQBYT, MOV, LDM, EFJ, IXA, ASTR = 149, 153, 168, 169, 185, 197, 208, 210, 215, 235
 OUTSIDE = program(
-    (0, bytes([LDC, 2, 0x81, 5, 1, CXI, 1, 2, 3, EQBYT, 0, 1, 9, LSL, 1, EFJ, 254, XJP, 0x80, 77, 64, NAT_INFO, 3, SLDL1, SLDL1, SLDL1, RPU, 0])),
+    (0, bytes([ASTR, 2, 129, LDM, 1, CXI, 1, 2, 3, EQBYT, 0, 1, 9, LSL, 1, EFJ, 254, IXA, 0x80, 77, 64, NAT_INFO, 3, SLDL1, SLDL1, SLDL1, RPU, 0])),
     (0, bytes([5, NAT, RPU, 0, 200, 200])),
     (0, bytes([5, NAT_INFO, 99, RPU, 0, 0])),
     (0, bytes([RPU, 0, 7, MOV])))
 
+
+# a constant pool behind a program of one routine, in either byte sex: a number is a word, bytes are as they stand
+def pooled(seg, order, *pool):
+    seg = bytearray(seg)
+    seg[2 * POOL:2 * POOL + 2] = (len(seg) // 2).to_bytes(2, 'little')
+    if order == 'big':
+        for at in (0, 1, 6, 7, 8, 9, 10, 11, 12, 13, 14):
+            seg[2 * at:2 * at + 2] = seg[2 * at:2 * at + 2][::-1]
+    return seg + b''.join(part if isinstance(part, bytes) else (part % 65536).to_bytes(2, order) for part in pool)
+
+
+# LDC in every way that a listing tells apart: words of both modes, more than a line shows, none, one, a real's word, words behind the segment
+LDC, XJP = 131, 214
+BYTES, NUMBERS = 0, 2
+CONSTANTS = program((0, bytes(
+    [LDC, BYTES, 1, 2, LDC, NUMBERS, 1, 2, LDC, NUMBERS, 3, 8, LDC, NUMBERS, 3, 9, LDC, NUMBERS, 2, 0, LDC, NUMBERS, 12, 1, LDC, NUMBERS, 13, 1] +
+    [LDC, NUMBERS, 11, 3, LDC, NUMBERS, 16, 1, LDC, NUMBERS, 14, 0x81, LDC, NUMBERS, 0xFF, 0xFF, 255, RPU, 0])))
+WORDS = [13, b'mg/l', 1, 2, -1, -32768, 32767, 6, 7, 8, 9, 10, 11, 12, 13]
+
+# XJP in every way: one index, several and a target out of the code, negative ones, none in range, more than are listed, 65,536 of them, words of
+# the table that are a real's, one such word, bounds that are, bounds behind the segment
+CASES = program((0, bytes(
+    [XJP, 1, XJP, 4, XJP, 9, XJP, 14, XJP, 16, XJP, 58, XJP, 60, XJP, 64, XJP, 66, XJP, 67, XJP, 68, XJP, 0xFF, 0xFF, RPU, 0])))
+TABLES = [67, 3, 3, 0, 1, 3, 0, 1000, -100, -2, 0, 0, 2, 4, 5, 4, 1, 40, *range(0, 80, 2), -32768, 32767, 7, 10, 0, 2, 1, 2, 0, 5, 6]
+
 FILES = {
+    'constants': pooled(CONSTANTS, 'little', *WORDS), 'constants-most': pooled(CONSTANTS, 'big', *WORDS),
+    'cases': pooled(CASES, 'little', *TABLES), 'cases-most': pooled(CASES, 'big', *TABLES),
     'small': SMALL, 'turned': TURNED,
     'length0': b'', 'length1': b'\0', 'length30': SMALL[:30], 'length31': SMALL[:31], 'length33': SMALL + b'\0', 'length34': SMALL + b'\0\0',
     'length65534': many(32767, 32764, [12, 32762]), 'length65535': bytes(65535), 'length65536': bytes(65536), 'length70000': bytes(70000),
     'sex0000': sex(0, 0), 'sex0101': sex(1, 1), 'sex0001': sex(0, 1), 'sex0200': sex(2, 0),
     'reloc1': small((RELOC, 1)), 'reloc65535': small((RELOC, 65535)),
-    'pool10': small((POOL, 10)), 'pool11': small((POOL, 11)), 'pool15': small((POOL, 15)), 'pool16': small((POOL, 16)), 'pool65535': small((POOL, 65535)),
+    'pool10': small((POOL, 10)), 'pool11': small((POOL, 11)), 'pool15': small((POOL, 15), (15, 0)), 'pool16': small((POOL, 16)), 'pool65535': small((POOL, 65535)),
+    'first1': small((POOL, 14), (14, 1)), 'first2': small((POOL, 14), (14, 2)), 'first65535': small((POOL, 15), (15, 65535)), 'first0705': small((POOL, 15)),
+    'first1-most': TURNED[:14] + b'\0\x0e' + TURNED[16:28] + b'\0\1' + TURNED[30:], 'first256-most': TURNED[:14] + b'\0\x0e' + TURNED[16:28] + b'\1\0' + TURNED[30:],
     'real65535': small((REAL, 65535), (9, 65535), (10, 65535)),
     'dict0': small((DICT, 0)), 'dict10': small((DICT, 10), (10, 1)), 'dict14': small((DICT, 14), (12, 22), (13, 7), (14, 1), (15, 13)),
     'dict15': small((DICT, 15), (15, 1)), 'dict16': small((DICT, 16)), 'dict65535': small((DICT, 65535)),

@@ -1,6 +1,6 @@
 #!/usr/bin/env python3
-# Writes data/faults/, a segment for each fault of document 01 and each way to it that a listing tells apart; run it in this folder. What it
-# writes is kept beside it. The transcript of their runs is in stdout, read against document 01 line by line.
+# Writes data/faults/, a segment for each fault of document 01 and each way to it that a listing tells apart, and one that is refused; run it in this folder.
+# What it writes is kept beside it. The transcript of their runs is in stdout, read against document 01 and request 2 line by line.
 import os
 
 HEAD = bytes.fromhex('0B00 0000 4641554C5420202 0 0100 0000 0200 0000 0000'.replace(' ', ''))
@@ -15,6 +15,13 @@ def segment(*routines):
         start = 2 * (entry + 1)
         out += start.to_bytes(2, 'little') + datasize.to_bytes(2, 'little') + bytes(code) + bytes([0x9C] * (len(code) % 2))
     return bytes(out)
+
+
+def pooled(code, *pool):
+    """One routine, and behind it a constant pool. Its first word says how many words on the real pool starts, or is 0."""
+    out = bytearray(segment((0, code)))
+    out[14:16] = (len(out) // 2).to_bytes(2, 'little')
+    return bytes(out) + b''.join((word % 65536).to_bytes(2, 'little') for word in pool)
 
 
 FAULTS = {
@@ -45,9 +52,28 @@ FAULTS = {
     '9-msdyn': [(0, [0x90, 2]), (0, [0x84, 0, 0xEE, 0xEE, 0xEE, 0x00, 0xC4, 0x96, 0])],  # CPL 2: LLA 0 DECI DECI DECI SLDC0 STO RPU 0
     '9-sp': [(0, [0x90, 2]), (0, [0x96, 100])],                 # CPL 2: RPU 100
     '10': [(0, [0x1F, 0x01, 0x1E, 0xCB])],                      # SLDC31 SLDC1 SLDC30 CHK
+    '6-no-pool': [(0, [0x83, 2, 1, 3])],                        # LDC 2 1 3
+    '6-no-table': [(0, [0x03, 0xD6, 1])],                       # SLDC3 XJP 1
+}
+
+POOLED = {
+    '6-past': pooled([0x83, 2, 3, 3], 0, 75, 109, 47, 32),                      # LDC 2 3 3: two words are there
+    '6-real-pool': pooled([0x83, 2, 3, 3], 5, 75, 109, 47, 32, 16256, 0),       # the same, and its third word is a real's
+    '6-one-real': pooled([0x83, 2, 5, 1], 5, 75, 109, 47, 32, 16256, 0),        # LDC 2 5 1: a real's first word
+    '6-table': pooled([0x03, 0xD6, 4], 5, 75, 109, 47, 1, 16256, 0),            # SLDC3 XJP 4: its highest index would be a real's word
+    '6-table-past': pooled([0x03, 0xD6, 4], 0, 75, 109, 47, 1),                 # the same at the segment's end
+    '6-arm': pooled([0x03, 0xD6, 1], 5, 1, 4, 2, 2, 16256, 0),                  # SLDC3 XJP 1: 1 to 4, and the words of 3 and 4 would be a real's
+    '6-arm-past': pooled([0x03, 0xD6, 1], 0, 1, 4, 2, 2),                       # the same at the segment's end
+    '7-case': pooled([0x03, 0xD6, 1], 0, 1, 3, 0, 0, 667),                      # SLDC3 XJP 1
+    '7-case-before': pooled([0x81, 0xFE, 0xFF, 0xD6, 1], 0, -3, -1, 0, -100, 0),    # LDCI -2 XJP 1
+    '4-constants': pooled([0x83, 2, 1, 20, 0x83, 2, 1, 20], 0, *range(101, 121)),   # LDC 2 1 20, twice
+    'refused-4': pooled([0x83, 2, 1, 1], 3, 75, 109),                           # its first word points to the word behind the segment
 }
 
 os.makedirs('data/faults', exist_ok=True)
 for name, routines in FAULTS.items():
     with open(f'data/faults/{name}.seg', 'wb') as f:
         f.write(segment(*routines))
+for name, data in POOLED.items():
+    with open(f'data/faults/{name}.seg', 'wb') as f:
+        f.write(data)

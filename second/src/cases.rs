@@ -87,18 +87,19 @@ pub fn answer_line(asked: Request, answer: &Answer, world: &World) -> String {
     }
 }
 
-/// `a W LEAST D RELOC POOL REAL COUNT DIGEST`
+/// `a W LEAST D RELOC POOL REALPOOL REAL COUNT DIGEST`
 fn judged_line(judged: &Judged) -> String {
     let routines = judged.routines.iter().flat_map(|routine| {
         [routine.entry, routine.data_size, routine.exit_ic, routine.start].map(u64::from)
     });
     format!(
-        "a {:x} {:x} {:x} {:x} {:x} {:x} {:x} {:08x}",
+        "a {:x} {:x} {:x} {:x} {:x} {:x} {:x} {:x} {:08x}",
         judged.words,
         u8::from(judged.least_first),
         judged.dictionary,
         judged.relocation,
         judged.pool,
+        judged.real_start,
         judged.real_size,
         judged.routines.len(),
         digest(routines)

@@ -7,6 +7,7 @@ use crate::generate::{
     LINK_BEFORE_UNLINKED, UNLINKED, UNLINKED_WHEN_FULL,
 };
 use crate::machine::{self, Kind, Op, Session};
+use crate::pool;
 use crate::segment::Segment;
 use crate::world::{Answer, Call, Request, World};
 use std::collections::BTreeMap;
@@ -44,6 +45,8 @@ pub struct AboutTo {
     in_unlinked: bool,
     /// What it is counted as if its bytes run out.
     cut: u32,
+    /// An LDC or XJP.
+    pool: Option<pool::Met>,
 }
 
 /// Whether a number is that of an unlinked routine.
@@ -52,7 +55,7 @@ fn is_unlinked(segment: &Segment, number: u64) -> bool {
 }
 
 impl AboutTo {
-    pub fn meet(segment: &Segment, session: &Session) -> AboutTo {
+    pub fn meet(segment: &Segment, session: &Session, region: &[u16]) -> AboutTo {
         let counter = usize::try_from(session.counter).unwrap_or(usize::MAX);
         let called = machine::decode(segment, session.counter).ok().filter(|decoded| {
             matches!(
@@ -66,6 +69,7 @@ impl AboutTo {
             full: session.sp < 6 + u64::from(segment.global_size()) + 5,
             in_unlinked: is_unlinked(segment, session.routine),
             cut: cut::counted(segment, session.counter),
+            pool: pool::Met::meet(segment, session, region),
         }
     }
 
@@ -79,7 +83,7 @@ impl AboutTo {
             GONE_ON if self.first == Some(150) && is_unlinked(segment, session.routine) => {
                 BACK_TO_UNLINKED
             }
-            end => end,
+            end => self.pool.map_or(end, |met| met.counted(end)),
         };
         (self.first, end)
     }
@@ -114,7 +118,8 @@ impl Coverage {
         let Request::Entry(Call::Turn { session, k: 1 }) = request else { return None };
         let record = world.bench.records.get(usize::try_from(session).ok()?)?;
         let segment = Segment::judge(world.segment_bytes(record.slot)?).ok()?;
-        Some(AboutTo::meet(&segment, &record.session))
+        let region = usize::try_from(session).ok().and_then(|number| world.region(number));
+        Some(AboutTo::meet(&segment, &record.session, region.unwrap_or(&[])))
     }
 
     /// To be told after a request was put.
@@ -238,7 +243,8 @@ fn end_name(end: u32) -> String {
         UNLINKED_WHEN_FULL => "8 unlinked and full".to_string(),
         LINK_BEFORE_UNLINKED => "9 before unlinked".to_string(),
         BACK_TO_UNLINKED => "ok back to unlinked".to_string(),
-        cut::CUT.. => cut::name(end),
+        cut::CUT..=cut::LAST_CUT => cut::name(end),
+        pool::POOL.. => pool::name(end).to_string(),
         fault => format!("{fault}"),
     }
 }

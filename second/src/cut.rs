@@ -9,10 +9,12 @@ use crate::segment::{Segment, Sex};
 use crate::world::{ask, blank_bench, Call, World};
 
 // Fault 1 is counted by the bytes of the instruction that were there before the
-// end: `CUT` and 1, 2 or 3; where a DB above 127 is among them, which would be
+// end: `CUT` and 1, 2, 3 or 4; where a DB above 127 is among them, which would be
 // fault 2 if the instruction were whole, `CUT_DB` and 2 or 3.
 pub const CUT: u32 = 16;
-pub const CUT_DB: u32 = 20;
+pub const CUT_DB: u32 = 24;
+/// The last of these numbers.
+pub const LAST_CUT: u32 = CUT_DB + 3;
 
 /// After which of its bytes each first byte can be cut.  (Written from 000's
 /// operands and 01's list, not from the interpreter.)
@@ -21,8 +23,9 @@ pub fn possible_cuts(first: u8) -> Vec<Outcome> {
         128 | 144 | 145 | 239 | 240 => &[CUT + 1], // UB: LDCB CPL CPG SCPI1 SCPI2
         138 | 212 | 241 => &[CUT + 1], // SB: UJP FJP TJP
         129 | 139 | 213 => &[CUT + 1, CUT + 2], // W: LDCI JPL FJPL
-        // B: LCO LLA LDO LAO LDL RPU STL SRO SLOD1 SLOD2 IND
-        130 | 132..=135 | 150 | 164 | 165 | 173 | 174 | 230 => &[CUT + 1, CUT + 2],
+        // B: LCO LLA LDO LAO LDL RPU STL SRO SLOD1 SLOD2 XJP IND
+        130 | 132..=135 | 150 | 164 | 165 | 173 | 174 | 214 | 230 => &[CUT + 1, CUT + 2],
+        131 => &[CUT + 1, CUT + 2, CUT + 3, CUT + 4], // UB, B and UB: LDC
         // DB and B: LDA LOD STR
         136 | 137 | 166 => &[CUT + 1, CUT + 2, CUT + 3, CUT_DB + 2, CUT_DB + 3],
         146 => &[CUT + 1, CUT + 2, CUT_DB + 2], // DB and UB: CPI
@@ -45,8 +48,8 @@ pub fn counted(segment: &Segment, counter: u64) -> u32 {
 /// The bytes that are there, if an outcome is that of a cut instruction.
 pub fn bytes_there(end: u32) -> Option<u32> {
     match end {
-        CUT_DB.. => Some(end - CUT_DB),
-        CUT.. => Some(end - CUT),
+        CUT_DB..=LAST_CUT => Some(end - CUT_DB),
+        CUT..CUT_DB => Some(end - CUT),
         _ => None,
     }
 }
@@ -68,6 +71,7 @@ fn cut_instruction(rng: &mut Rng) -> Vec<u8> {
         Some(Form::B) => &[any | 128],
         Some(Form::DbB) => &[db, any | 128],
         Some(Form::DbUb) => &[db],
+        Some(Form::UbBUb) => &[db, any | 128, any],
         _ => &[],
     };
     let kept = rng.up_to(there.len() as u64) as usize;
@@ -91,7 +95,7 @@ const STATEMENTS: [&[u8]; 8] = [
 fn running_out(rng: &mut Rng) -> Vec<u8> {
     let end = match rng.up_to(9) {
         0 => Vec::new(),       // the counter comes to 2W
-        1 => vec![rng.pick(&[131, 142, 214, 255], 64)], // not carried
+        1 => vec![rng.pick(&[142, 208, 215, 255], 64)], // not carried
         _ => cut_instruction(rng),
     };
     let mut code = Vec::new();

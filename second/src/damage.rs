@@ -12,12 +12,13 @@ use crate::world::World;
 const WIDE: u64 = 1 << 32;
 
 /// The damages, in the order of 01's sentence.
-pub const DAMAGES: [&str; 42] = [
+pub const DAMAGES: [&str; 46] = [
     "S just at a limit", "S beyond 32,768", "S beyond N", "N beyond 1,048,576",
     "N not the memory's words", "memory one word short", "memory one word long",
     "slot range to the store's end", "slot range beyond the store", "slot start far beyond",
     "slot length odd", "segment in a slot spoilt", "a routine unlinked", "all but routine 1 unlinked",
     "routine 1 unlinked", "an entry beside zero", "a bad entry after a zero", "session in an unlinked routine",
+    "pool pointer outside", "pool's first word zero", "pool's first word at its limit", "pool's first word beyond",
     "region below S", "region at N", "region beyond N", "region far beyond", "regions touch", "regions overlap",
     "slot named is 16 or more", "slot named not loaded", "L below 16", "L at 32,768",
     "L above 32,768", "L below 6+G", "SP at a limit", "SP outside", "M at a limit", "M outside",
@@ -40,6 +41,9 @@ struct Target {
     entry: i64,
     /// Routines from 2 on whose dictionary word has no other use.
     later: Vec<i64>,
+    /// Words from 11 on that are no number of the segment, so that a pool's
+    /// first word may be put there.
+    free: Vec<i64>,
     dictionary: i64,
     sex: Sex,
     others: Vec<Record>,
@@ -53,6 +57,7 @@ pub fn damage(rng: &mut Rng, world: &mut World, kind: &str) -> Option<bool> {
     damage_sizes(rng, world, kind, &target)
         .or_else(|| damage_slots(rng, world, kind, &target))
         .or_else(|| damage_entries(rng, world, kind, &target))
+        .or_else(|| damage_pool(rng, world, kind, &target))
         .or_else(|| damage_region(rng, world, kind, &target))
         .or_else(|| damage_length(rng, world, kind, &target))
         .or_else(|| damage_session(rng, world, kind, &target))
@@ -76,6 +81,7 @@ fn target(rng: &mut Rng, world: &World) -> Option<Target> {
         floor: 6 + u64::from(segment.global_size()),
         entry: i64::from(segment.routine(1)?.entry),
         later: later_routines(&segment),
+        free: free_words(&segment),
         dictionary: i64::from(segment.dictionary),
         sex: segment.sex,
         others: others.collect(),
@@ -89,6 +95,11 @@ fn later_routines(segment: &Segment) -> Vec<i64> {
         segment.routines.iter().flat_map(|r| [r.entry, r.entry.saturating_sub(1)]).collect();
     let later = (2..=segment.count()).filter(|number| !others.contains(&(segment.dictionary + number)));
     later.map(i64::from).collect()
+}
+
+fn free_words(segment: &Segment) -> Vec<i64> {
+    let positions = segment.word_positions();
+    (11..segment.words).filter(|word| !positions.contains(word)).map(i64::from).collect()
 }
 
 /// S, N and the memory.
@@ -174,6 +185,30 @@ fn copy_in_another_slot(world: &mut World, target: &Target) -> Option<Slot> {
     *slot = Slot { loaded: true, start: world.store.len() as u64, length: target.slot.length };
     world.store.extend(copy);
     Some(*slot)
+}
+
+/// The pool of the segment that the session names, or of a copy: "The pool's
+/// first word must be 0 or point inside the pool (which ends at W), else refusal
+/// 4, in soundness too."
+fn damage_pool(rng: &mut Rng, world: &mut World, kind: &str, target: &Target) -> Option<bool> {
+    if !kind.starts_with("pool") {
+        return None;
+    }
+    let slot = if rng.chance(1, 2) { target.slot } else { copy_in_another_slot(world, target)? };
+    let bytes = world.store.get_mut(slot.start as usize..(slot.start + slot.length) as usize)?;
+    let words = target.words as i64;
+    let at = rng.pick_in(&[*target.free.last()?], 11, words - 1);
+    let at = if target.free.contains(&at) { at } else { *target.free.first()? };
+    let room = words - 1 - at;
+    let (pool, first, sound) = match kind {
+        "pool pointer outside" => (rng.pick(&[1, 10, words, 65_535], 1), 0, false),
+        "pool's first word zero" => (at, 0, true),
+        "pool's first word at its limit" => (at, room, true),
+        _ => (at, rng.pick(&[room + 1, room + 2, 65_535, 65_536 - at, 40_000], 65_535), false),
+    };
+    put_word(bytes, target.sex, at, first);
+    put_word(bytes, target.sex, 7, pool);
+    Some(sound)
 }
 
 /// Entries of the segment that the session names, or of a copy: "An entry of

@@ -44,7 +44,7 @@ impl Explainer {
         let bytes = world.segment_bytes(record.slot).unwrap_or(&[]);
         let Some(first) = bytes.get(at) else { return format!("; at {counter}, no byte") };
         let name = machine::instruction(*first).map_or("not carried", |row| row.name);
-        let operands: Vec<u8> = bytes.iter().skip(at + 1).take(3).copied().collect();
+        let operands: Vec<u8> = bytes.iter().skip(at + 1).take(4).copied().collect();
         format!("; at {counter} {name} ({first}), then bytes {operands:?}")
     }
 }
@@ -111,8 +111,8 @@ fn answer(letter: &str, numbers: &[u64]) -> Option<String> {
             kind(*k, *fault, *place)
         ),
         ("a", [_]) => "= turned".to_string(),
-        ("a", [words, least, d, reloc, pool, real, count, _]) => format!(
-            "= good: W {words}, {} byte first, D {d}, relocation {reloc}, pool {pool}, real size {real}, n {count}",
+        ("a", [words, least, d, reloc, pool, start, real, count, _]) => format!(
+            "= good: W {words}, {} byte first, D {d}, relocation {reloc}, pool {pool}, real pool {start}, real size {real}, n {count}",
             if *least == 1 { "least" } else { "most" }
         ),
         _ => return None,

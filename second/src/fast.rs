@@ -11,10 +11,12 @@ use crate::segment::{Segment, Sex};
 pub struct Code<'a> {
     /// All 2W bytes.
     pub bytes: &'a [u8],
-    /// D, n, pool pointer (0 for none), G
+    /// D, n, pool pointer (0 for none), the real pool's start (W for none, 0
+    /// for no pool), G
     pub dictionary: usize,
     pub count: usize,
     pub pool: usize,
+    pub real_start: usize,
     pub globals: usize,
     pub most_first: bool,
 }
@@ -65,6 +67,7 @@ pub fn turn(
         dictionary: segment.dictionary as usize,
         count: segment.routines.len(),
         pool: segment.pool as usize,
+        real_start: segment.real_start as usize,
         globals: segment.global_size() as usize,
         most_first: segment.sex == Sex::MostFirst,
     };
@@ -110,7 +113,7 @@ pub fn run(
     let length = region.len();
     let floor = 6 + segment.globals;
     let words = code.len() / 2;
-    let pool = segment.pool;
+    let (pool, real_start) = (segment.pool, segment.real_start);
     let top_link = length - 5;
     let Registers { mut sp, mut m, mut counter, mut routine } = *registers;
     let mut left = k;
@@ -312,6 +315,26 @@ pub fn run(
                 }
                 push!(offset as u16)
             }
+            131 => {
+                let mode = byte!();
+                let from = pool + big!();
+                let count = byte!();
+                let end = from + count;
+                if pool == 0 || (end > real_start && count > 0) {
+                    fault!(6)
+                }
+                if sp < floor + count {
+                    fault!(4)
+                }
+                // none for a count of 0, whose offset may lie anywhere
+                let block = code.get(2 * from..2 * end).unwrap_or(&[]);
+                let swapped = mode == 2 && segment.most_first;
+                for pair in block.chunks_exact(2) {
+                    let word = u16::from_le_bytes([pair[0], pair[1]]);
+                    sp -= 1;
+                    region[sp] = if swapped { word.swap_bytes() } else { word };
+                }
+            }
             132 => {
                 let address = private!(m + 4 + big!());
                 push!(address as u16)
@@ -475,6 +498,25 @@ pub fn run(
                 let offset = word!() as u16 as i16;
                 need!(1);
                 if region[sp] & 1 == 0 {
+                    jump!(offset)
+                }
+                sp += 1;
+            }
+            214 => {
+                let table = pool + big!();
+                need!(1);
+                // with no pool no word lies below its end
+                if table + 2 > real_start {
+                    fault!(6)
+                }
+                let index = region[sp] as i16;
+                let least = segment_word(segment, table) as i16;
+                if least <= index && index <= segment_word(segment, table + 1) as i16 {
+                    let at = table + 2 + (i32::from(index) - i32::from(least)) as usize;
+                    if at >= real_start {
+                        fault!(6)
+                    }
+                    let offset = segment_word(segment, at) as i16;
                     jump!(offset)
                 }
                 sp += 1;

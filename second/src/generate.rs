@@ -8,6 +8,7 @@ use crate::bench::{self, Bench, Record, Slot};
 use crate::cut::possible_cuts;
 use crate::damage::{damage, DAMAGES, LARGE};
 use crate::machine::{self, Form, Kind, Op, Session};
+use crate::pool::{self, Pool};
 use crate::segment::{Segment, Sex};
 use crate::unlinked::{self, Entries};
 use crate::world::{ask, blank_bench, Call, World};
@@ -122,6 +123,8 @@ pub struct Wish {
     pub program: bool,
     /// How often of 12 some routines are unlinked.
     pub unlinked: u64,
+    /// How often of 12 there is a constant pool.
+    pub pools: u64,
 }
 
 pub const ORDINARY: Wish = Wish {
@@ -131,47 +134,67 @@ pub const ORDINARY: Wish = Wish {
     most_data: 9,
     program: true,
     unlinked: 5,
+    pools: 6,
 };
 
 /// Room for statements, so that sessions do something.
 pub const LIVELY: Wish =
     Wish { least_words: 34, most_words: 90, most_routines: 3, unlinked: 3, ..ORDINARY };
 
+/// The words of a drafted segment: W, where its words but the pool's end, D,
+/// and the routines' entries.
+struct Plan {
+    words: i64,
+    pool: Pool,
+    dictionary: i64,
+    entries: Vec<i64>,
+    /// Those that are no code.
+    used: Vec<i64>,
+}
+
+fn plan(rng: &mut Rng, wish: Wish) -> Plan {
+    let words = rng.pick_in(&[16, 17, 18, 24, 40, wish.most_words], wish.least_words, wish.most_words);
+    let pool = pool::drafted(rng, wish.pools, words, wish.program);
+    let rest = pool.rest(words);
+    let most_routines = ((rest - 12) / 3).clamp(1, wish.most_routines);
+    let count = rng.between(1, most_routines);
+    let last_start = rest - 1 - count;
+    let dictionary = rng.pick_in(&[11, 11, last_start], 11, last_start);
+    let mut used: Vec<i64> = (dictionary..=dictionary + count).chain(rest..words).collect();
+    let entries: Vec<i64> = unlinked::chosen(rng, wish.unlinked, count)
+        .into_iter()
+        .map(|unlinked| if unlinked { 0 } else { draft_entry(rng, words, &mut used) })
+        .collect();
+    Plan { words, pool, dictionary, entries, used }
+}
+
 /// A segment drafted to pass checks 1 to 8; it may miss.
 fn draft(rng: &mut Rng, wish: Wish) -> Vec<u8> {
-    let words = rng.pick_in(&[16, 17, 18, 24, 40, wish.most_words], wish.least_words, wish.most_words);
-    let most_routines = ((words - 12) / 3).clamp(1, wish.most_routines);
-    let count = rng.between(1, most_routines);
+    let plan = plan(rng, wish);
+    let Plan { words, pool, dictionary, entries, .. } = &plan;
+    let count = entries.len() as i64;
     let sex = if rng.chance(1, 2) { Sex::LeastFirst } else { Sex::MostFirst };
     let alike = rng.next() as u8;
     let loose = wish.program || rng.chance(1, 8);
     let mut bytes: Vec<u8> =
         (0..2 * words).map(|_| if loose { rng.next() as u8 } else { alike }).collect();
-
-    let last_start = words - 1 - count;
-    let dictionary = rng.pick_in(&[11, 11, last_start], 11, last_start);
-    let pool = if rng.chance(1, 2) { 0 } else { rng.pick_in(&[11, words - 1], 11, words - 1) };
-    let mut used: Vec<i64> = (dictionary..=dictionary + count).collect();
-    let entries: Vec<i64> = unlinked::chosen(rng, wish.unlinked, count)
-        .into_iter()
-        .map(|unlinked| if unlinked { 0 } else { draft_entry(rng, words, &mut used) })
-        .collect();
     let data_sizes = draft_data_sizes(rng, wish, count);
     if wish.program {
-        fill_with_program(rng, &mut bytes, &used, &entries, &data_sizes, pool != 0);
+        fill_with_program(rng, &mut bytes, &plan, &data_sizes);
     }
     if let Some(flag) = bytes.get_mut(12..14) {
         flag.copy_from_slice(if sex == Sex::LeastFirst { &[1, 0] } else { &[0, 1] });
     }
-    put_word(&mut bytes, sex, 0, dictionary);
+    pool.put(&mut bytes, sex);
+    put_word(&mut bytes, sex, 0, *dictionary);
     put_word(&mut bytes, sex, 1, 0);
-    put_word(&mut bytes, sex, 7, pool);
+    put_word(&mut bytes, sex, 7, pool.at);
     for (entry, data_size) in entries.iter().zip(&data_sizes).filter(|(entry, _)| **entry != 0) {
         let exit_ic = rng.pick_in(&[22, 2 * words - 1], 22, 2 * words - 1);
         put_word(&mut bytes, sex, *entry, *data_size);
         put_word(&mut bytes, sex, *entry - 1, exit_ic);
     }
-    put_word(&mut bytes, sex, dictionary, count);
+    put_word(&mut bytes, sex, *dictionary, count);
     for (entry, number) in entries.iter().zip(1..) {
         put_word(&mut bytes, sex, dictionary + number, *entry);
     }
@@ -206,14 +229,8 @@ fn draft_data_sizes(rng: &mut Rng, wish: Wish, count: i64) -> Vec<i64> {
 /// Each run of bytes that no word position uses gets code: either statements
 /// that leave the stack as it was, ended by a jump back or a return, or a
 /// loose stream of instructions.
-fn fill_with_program(
-    rng: &mut Rng,
-    bytes: &mut [u8],
-    used: &[i64],
-    entries: &[i64],
-    data_sizes: &[i64],
-    pool: bool,
-) {
+fn fill_with_program(rng: &mut Rng, bytes: &mut [u8], plan: &Plan, data_sizes: &[i64]) {
+    let Plan { pool, entries, used, .. } = plan;
     let count = entries.len() as i64;
     let globals = data_sizes.first().copied().unwrap_or(0);
     let steady = rng.chance(4, 5);
@@ -246,7 +263,7 @@ struct Writer<'a> {
     entries: &'a [i64],
     globals: i64,
     locals: i64,
-    pool: bool,
+    pool: &'a Pool,
 }
 
 impl Writer<'_> {
@@ -317,8 +334,30 @@ impl Writer<'_> {
                 code.extend(self.store(rng));
                 code.extend(self.store(rng));
             }
+            9 if self.pool.at != 0 => code.extend(self.constants(rng)),
             _ => code.push(156),
         }
+        code
+    }
+
+    /// Words of the pool, and a store for each.
+    fn constants(&self, rng: &mut Rng) -> Vec<u8> {
+        let count = rng.between(0, 3);
+        let mut code = self.pool.load(rng, count);
+        for _ in 0..count {
+            code.extend(self.store(rng));
+        }
+        code
+    }
+
+    /// A word changed by a case of an index from 0 to 3, or of any.
+    fn choice(&self, rng: &mut Rng, depth: u64) -> Vec<u8> {
+        let mut code = self.expression(rng, depth);
+        code.extend(self.expression(rng, depth));
+        if rng.chance(3, 4) {
+            code.extend([3, 161]);
+        }
+        code.extend(self.pool.choose());
         code
     }
 
@@ -378,7 +417,8 @@ impl Writer<'_> {
         let mut code = Vec::new();
         let (global, local) = (self.global(rng), self.local(rng));
         if depth > 0 && rng.chance(3, 5) {
-            match rng.up_to(5) {
+            match rng.up_to(7) {
+                6 | 7 if self.pool.has_table() => code.extend(self.choice(rng, depth - 1)),
                 0 => {
                     code.extend(self.expression(rng, depth - 1));
                     code.push(rng.pick(&[224, 225, 229, 237, 238], 229));
@@ -406,14 +446,15 @@ impl Writer<'_> {
             }
             return code;
         }
-        match rng.up_to(13) {
+        match rng.up_to(15) {
+            13 | 14 if self.pool.at != 0 => code.extend(self.pool.load(rng, 1)),
             0 => code.push(rng.up_to(31) as u8),
             1 => code.extend([128, rng.next() as u8]),
             2 => {
                 code.push(129);
                 code.extend((rng.next() as u16).to_le_bytes());
             }
-            3 if self.pool => code.extend([130, 0]),
+            3 if self.pool.at != 0 => code.extend([130, 0]),
             4 => code.push(152),
             5 if global <= 16 => code.push(47 + global as u8),
             6 if local <= 16 => code.push(31 + local as u8),
@@ -485,6 +526,7 @@ fn ordinary_instruction(rng: &mut Rng, count: i64) -> Vec<u8> {
             push_big(rng, &mut bytes, offset);
         }
         (Form::DbUb, _) => bytes.extend([rng.pick(&[0, 0, 1, 1, 2], 0), routine]),
+        (Form::UbBUb, _) => bytes.extend([rng.pick(&[0, 2], 2), offset as u8, rng.up_to(3) as u8]),
     }
     bytes
 }
@@ -527,7 +569,7 @@ pub fn beside_a_limit(rng: &mut Rng, mut bytes: Vec<u8>) -> Vec<u8> {
     let (sex, words) = (segment.sex, i64::from(segment.words));
     let dictionary = i64::from(segment.dictionary);
     let entries: Vec<i64> = segment.routines.iter().map(|r| i64::from(r.entry)).collect();
-    match rng.up_to(11) {
+    match rng.up_to(13) {
         0 => length_beside_a_limit(rng, &mut bytes),
         1 => {
             let flag = rng.pick(&[[0, 0], [1, 1], [2, 0], [0, 2], [1, 0], [0, 1]], [255, 0]);
@@ -549,6 +591,7 @@ pub fn beside_a_limit(rng: &mut Rng, mut bytes: Vec<u8>) -> Vec<u8> {
             let n = rng.pick(&[0, 1, room, room + 1, 255, 256, 257, 65_535], 0);
             put_word(&mut bytes, sex, dictionary, n);
         }
+        6 | 7 => pool::beside_a_limit(rng, &mut bytes, sex),
         _ => {
             let entries = Entries { sex, words, dictionary, entries: &entries };
             routine_beside_a_limit(rng, &mut bytes, &entries);
@@ -689,6 +732,8 @@ fn region_length(rng: &mut Rng, segment: &Segment) -> i64 {
     let floor = 6 + i64::from(segment.global_size());
     let lowest = floor.max(16);
     match rng.up_to(199) {
+        // room for any LDC
+        _ if segment.pool != 0 && segment.words > 280 => lowest + rng.between(230, 270),
         0 => 32_768,
         1 => rng.between(lowest, 32_768),
         2..=7 => rng.between(lowest, lowest + 700),
@@ -778,6 +823,7 @@ fn shared_words(rng: &mut Rng, count: i64) -> Vec<u16> {
 pub fn session_case(rng: &mut Rng) -> RunCase {
     let bytes = match rng.up_to(39) {
         0 => unlinked::crowd(rng),
+        1 => pool::long(rng),
         _ => valid_segment(rng, Wish { program: false, unlinked: 8, ..ORDINARY }),
     };
     let count = if rng.chance(1, 100) { 32_768 } else { rng.pick(&[0, 1, 2, 7, 40], 0) };
@@ -798,6 +844,7 @@ pub fn operand_size(first: u8, rng: &mut Rng) -> i64 {
         Some(Form::W | Form::DbUb) => 2,
         Some(Form::B) => big,
         Some(Form::DbB) => 1 + big,
+        Some(Form::UbBUb) => 2 + big,
     }
 }
 
@@ -843,6 +890,8 @@ pub fn telling_operands(
 
     let around = |limit: i64| [limit - 1, limit, limit + 1];
     let mut limits: Vec<i64> = Vec::new();
+    // LDC's count
+    let mut taken = 0;
     match instruction.op {
         Op::LoadLocal | Op::AddressLocal | Op::StoreLocal => {
             limits.extend(around(length - (m + 4)));
@@ -865,8 +914,14 @@ pub fn telling_operands(
         }
         Op::PushPoolOffset => {
             limits.extend(around(words - i64::from(view.segment.pool)));
+            limits.extend(around(i64::from(view.segment.real_start) - i64::from(view.segment.pool)));
             limits.extend([0, 1, 32_767]);
         }
+        Op::PushPoolWords => {
+            (limits, taken) = pool::telling_load(rng, view.segment, view.session);
+            code.push(rng.pick(&[0, 1, 1, 2, 2, 2, 2, 3, 130, 255], 2));
+        }
+        Op::CaseJump => limits.extend(pool::telling_table(view.segment)),
         Op::Return => {
             limits.extend(around(length - (m + 5)));
             limits.extend(around(floor - (m + 5)));
@@ -892,14 +947,18 @@ pub fn telling_operands(
         Form::W => {
             code.extend((rng.pick_in(&limits, -32_768, 32_767) as i16).to_le_bytes());
         }
-        Form::B | Form::DbB => {
+        Form::B | Form::DbB | Form::UbBUb => {
             // one byte or two, as the size was drawn
-            let left = size - code.len() as i64;
+            let count = i64::from(instruction.form == Form::UbBUb);
+            let left = size - code.len() as i64 - count;
             if left <= 1 {
                 code.push(rng.pick_in(&limits, 0, 127) as u8);
             } else {
                 let value = rng.pick_in(&limits, 0, 32_767) as u16;
                 code.extend((value | 0x8000).to_be_bytes());
+            }
+            if count > 0 {
+                code.push(taken as u8);
             }
         }
     }
@@ -923,6 +982,7 @@ pub fn possible_faults(first: u8) -> &'static [u32] {
         120..=127 => &[3, 6],                // SIND
         128 | 129 => &[1, 4],                // LDCB LDCI
         130 => &[1, 6, 4],                   // LCO
+        131 => &[1, 6, 4],                   // LDC
         132..=135 => &[1, 6, 4],             // LLA LDO LAO LDL
         136 | 137 => &[1, 2, 9, 6, 4],       // LDA LOD
         138 | 139 => &[1, 7],                // UJP JPL
@@ -942,6 +1002,7 @@ pub fn possible_faults(first: u8) -> &'static [u32] {
         196 => &[3, 6],                      // STO
         203 => &[3, 10],                     // CHK
         212 | 213 | 241 => &[1, 3, 7],       // FJP FJPL TJP
+        214 => &[1, 3, 6, 7],                // XJP
         224 | 225 | 229 | 237 | 238 => &[3], // ABI NGI LNOT INCI DECI
         226 => &[3, 4],                      // DUP1
         230 => &[1, 3, 6],                   // IND
@@ -956,7 +1017,8 @@ pub fn can_go_well(first: u8) -> bool {
 }
 
 /// What one step came to: a fault number, 0 for gone on, 11 for finished.  From
-/// 16 on it is fault 1 of a cut instruction (`cut`).
+/// 16 on it is fault 1 of a cut instruction (`cut`), from 32 on what LDC and XJP
+/// came to (`pool`).
 pub const GONE_ON: u32 = 0;
 pub const FINISHED: u32 = 11;
 // Told apart from the faults 8 and 9 and from gone on, since unlinked routines
@@ -974,6 +1036,10 @@ pub type Outcome = (Option<u8>, u32);
 pub fn possible_outcomes() -> Vec<Outcome> {
     let mut possible = vec![(None, 1)];
     for first in 0..=255u8 {
+        if matches!(first, 131 | 214) {
+            possible.extend(pool::possible(first).into_iter().chain(possible_cuts(first)));
+            continue;
+        }
         if can_go_well(first) {
             possible.push((Some(first), GONE_ON));
         }

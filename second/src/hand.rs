@@ -5,9 +5,12 @@
 //! made of; the lines are in `hand/`.
 
 mod benches;
+mod case_jump;
+mod constants;
 mod cut;
 mod instructions;
 mod marked;
+mod pool;
 mod segments;
 mod soundness;
 mod unlinked;
@@ -43,20 +46,23 @@ pub fn table() -> Vec<Hand> {
     soundness::fill(&mut table);
     unlinked::fill(&mut table);
     cut::fill(&mut table);
+    pool::fill(&mut table);
+    constants::fill(&mut table);
+    case_jump::fill(&mut table);
     table.cases
 }
 
-/// The first bytes that 01 carries, by hand from its list and appendix B.
+/// The first bytes that 01 carries, by hand from its list and appendix B, and
+/// the two of request 2 of 02: LDC 131 and XJP 214.
 pub fn carried() -> Vec<u8> {
     (0..=63)
         .chain(96..=111)
-        .chain(120..=130)
-        .chain(132..=141)
+        .chain(120..=141)
         .chain([143, 144, 145, 146, 150, 152, 156])
         .chain(160..=166)
         .chain([173, 174])
         .chain(176..=181)
-        .chain([189, 196, 203, 212, 213, 224, 225, 226, 229, 230, 237, 238, 239, 240, 241])
+        .chain([189, 196, 203, 212, 213, 214, 224, 225, 226, 229, 230, 237, 238, 239, 240, 241])
         .collect()
 }
 
@@ -167,7 +173,8 @@ impl Story<'_> {
 /// Routine 1: EXITIC word 15, DATASIZE word 16 (2, so G = 2), code from byte 34.
 /// Routine 2: words 39 and 40 (DATASIZE 3), code from byte 82.
 /// Routine 3: words 49 and 50 (DATASIZE 0), code from byte 102.
-/// All code bytes are NOP (156).
+/// All code bytes are NOP (156); the first word of a pool behind the routines'
+/// words is 0.
 pub fn hand_segment(pool: u16) -> Vec<u8> {
     let mut bytes = vec![156; 128];
     let words = [
@@ -176,6 +183,9 @@ pub fn hand_segment(pool: u16) -> Vec<u8> {
         (15, 34), (16, 2), (39, 82), (40, 3), (49, 102), (50, 0),
     ];
     set_words(&mut bytes, &words);
+    if pool > 50 {
+        set_words(&mut bytes, &[(usize::from(pool), 0)]);
+    }
     set_bytes(&mut bytes, 4, b"HANDMADE");
     bytes
 }
@@ -314,11 +324,27 @@ impl<'a> Rig<'a> {
         self
     }
 
+    /// Bytes of the segment changed.
+    fn with_segment_bytes(mut self, at: usize, bytes: &[u8]) -> Self {
+        set_bytes(&mut self.world.store, 2 + at, bytes);
+        self
+    }
+
+    /// More for its name.
+    fn noted(mut self, what: &str) -> Self {
+        self.name += what;
+        self
+    }
+
     /// The segment most byte first; to be asked for after its words are set.
     fn most_first(mut self) -> Self {
         most_first(&mut self.world.store[2..130]);
         self.name += ", most byte first";
         self
+    }
+
+    fn in_sex(self, most_first: bool) -> Self {
+        if most_first { self.most_first() } else { self }
     }
 
     /// A word of the region that the step writes.

@@ -16,6 +16,7 @@ pub mod fast;
 pub mod generate;
 pub mod hand;
 pub mod machine;
+pub mod pool;
 pub mod products;
 pub mod reader;
 pub mod segment;

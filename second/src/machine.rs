@@ -3,7 +3,7 @@
 //! changes nothing) and then put in force, so that a fault leaves all as it
 //! was: "Only the session's kind changes."
 
-use crate::segment::{Missing, Reader, Routine, Segment};
+use crate::segment::{Missing, Reader, Routine, Segment, Sex};
 
 /// "The three kinds of session are ready, finished and faulted (with fault
 /// number and place)."
@@ -87,6 +87,8 @@ pub enum Form {
     W,
     DbB,
     DbUb,
+    /// The mode, the offset and the count of LDC.
+    UbBUb,
 }
 
 /// What the carried instructions do, short and long forms together.
@@ -94,6 +96,7 @@ pub enum Form {
 pub enum Op {
     PushValue,
     PushPoolOffset,
+    PushPoolWords,
     LoadLocal,
     AddressLocal,
     StoreLocal,
@@ -130,6 +133,7 @@ pub enum Op {
     Jump,
     FalseJump,
     TrueJump,
+    CaseJump,
     CallLocal,
     CallGlobal,
     CallIntermediate,
@@ -152,7 +156,8 @@ pub struct Instruction {
 
 /// "Every one of the 256 first bytes has its operand form, words taken and
 /// words given in one table (marked if not carried; calls and returns take
-/// and give 0)."  `None` is the mark.  Numbers are appendix B's.
+/// and give 0)."  `None` is the mark.  Numbers are appendix B's.  What LDC gives
+/// its operand says, so that here it gives 0 too.
 pub fn instruction(first: u8) -> Option<Instruction> {
     use Form::*;
     use Op::*;
@@ -182,6 +187,7 @@ pub fn instruction(first: u8) -> Option<Instruction> {
         128 => row("LDCB", PushValue, Ub, 0, 1),
         129 => row("LDCI", PushValue, W, 0, 1),
         130 => row("LCO", PushPoolOffset, B, 0, 1),
+        131 => row("LDC", PushPoolWords, UbBUb, 0, 0),
         132 => row("LLA", AddressLocal, B, 0, 1),
         133 => row("LDO", LoadGlobal, B, 0, 1),
         134 => row("LAO", AddressGlobal, B, 0, 1),
@@ -220,6 +226,7 @@ pub fn instruction(first: u8) -> Option<Instruction> {
         203 => row("CHK", CheckSubrange, Nothing, 3, 1),
         212 => row("FJP", FalseJump, Sb, 1, 0),
         213 => row("FJPL", FalseJump, W, 1, 0),
+        214 => row("XJP", CaseJump, B, 1, 0),
         224 => row("ABI", Absolute, Nothing, 1, 1),
         225 => row("NGI", Negate, Nothing, 1, 1),
         226 => row("DUP1", Duplicate, Nothing, 1, 2),
@@ -243,8 +250,19 @@ pub struct Decoded {
     pub links: u32,
     /// UB, SB, B or W, or the number of a short form.
     pub value: i64,
+    /// 000's UB_1 and UB_2 of LDC: the mode, and how many words; else 0.
+    pub mode: u32,
+    pub count: u32,
     /// "the byte after the instruction"
     pub next: u64,
+}
+
+/// The operands of an instruction, as in `Decoded`.
+struct Operands {
+    links: u32,
+    value: i64,
+    mode: u32,
+    count: u32,
 }
 
 /// "The first byte is judged for 1 and 2 before its operands are fetched. All
@@ -256,31 +274,38 @@ pub fn decode(segment: &Segment, counter: u64) -> Result<Decoded, Faulting> {
     let mut reader = Reader::at(segment, counter);
     let first = reader.byte()?;
     let instruction = instruction(first).ok_or(not_carried)?;
-    let (links, value) = operands(&mut reader, &instruction)?;
+    let Operands { links, value, mode, count } = operands(&mut reader, &instruction)?;
     if links > 127 {
         return Err(not_carried);
     }
-    Ok(Decoded { instruction, links, value, next: reader.place })
+    Ok(Decoded { instruction, links, value, mode, count, next: reader.place })
 }
 
-/// The operands in the order of 000's entries, as (DB, the other one).
-fn operands(reader: &mut Reader, instruction: &Instruction) -> Result<(u32, i64), Missing> {
-    let links = instruction.links;
-    Ok(match instruction.form {
-        Form::Nothing => (links, instruction.value),
-        Form::Ub => (links, i64::from(reader.ub()?)),
-        Form::Sb => (links, i64::from(reader.sb()?)),
-        Form::B => (links, i64::from(reader.b()?)),
-        Form::W => (links, i64::from(reader.w()?)),
+/// The operands in the order of 000's entries.
+fn operands(reader: &mut Reader, instruction: &Instruction) -> Result<Operands, Missing> {
+    let (mut links, mut mode, mut count) = (instruction.links, 0, 0);
+    let value = match instruction.form {
+        Form::Nothing => instruction.value,
+        Form::Ub => i64::from(reader.ub()?),
+        Form::Sb => i64::from(reader.sb()?),
+        Form::B => i64::from(reader.b()?),
+        Form::W => i64::from(reader.w()?),
         Form::DbB => {
-            let db = reader.db()?;
-            (db, i64::from(reader.b()?))
+            links = reader.db()?;
+            i64::from(reader.b()?)
         }
         Form::DbUb => {
-            let db = reader.db()?;
-            (db, i64::from(reader.ub()?))
+            links = reader.db()?;
+            i64::from(reader.ub()?)
         }
-    })
+        Form::UbBUb => {
+            mode = reader.ub()?;
+            let offset = reader.b()?;
+            count = reader.ub()?;
+            i64::from(offset)
+        }
+    };
+    Ok(Operands { links, value, mode, count })
 }
 
 /// What a step that does not fault does.
@@ -440,15 +465,56 @@ impl View<'_> {
     /// "Jumps count from the byte after the instruction; the target of a jump
     /// not taken isn't judged."  In bytes (open question 1).
     fn jump(&self, decoded: &Decoded, taken: bool) -> Result<Transition, Fault> {
+        if !taken {
+            return Ok(Transition::Go(self.on(decoded)));
+        }
+        self.jump_by(decoded, decoded.value)
+    }
+
+    fn jump_by(&self, decoded: &Decoded, offset: i64) -> Result<Transition, Fault> {
         let mut change = self.on(decoded);
-        if taken {
-            let target = reckon(decoded.next) + decoded.value;
-            if !(22..2 * i64::from(self.segment.words)).contains(&target) {
-                return Err(BAD_TARGET);
-            }
-            change.counter = target as u64;
+        let target = reckon(decoded.next) + offset;
+        if !(22..2 * i64::from(self.segment.words)).contains(&target) {
+            return Err(BAD_TARGET);
+        }
+        change.counter = target as u64;
+        Ok(Transition::Go(change))
+    }
+
+    /// 000: "Push the UB_2 words starting at that offset onto the evaluation
+    /// stack. If UB_1, the mode, is 2, and the current segment is of opposite
+    /// byte sex from the host, swap the bytes of each word as it is pushed."
+    /// Request 2 of 02: "our own sex is least-first".  They are pushed one by
+    /// one, so that the last one is the top; no pool is 6 for no words too.
+    fn push_pool_words(&self, decoded: &Decoded) -> Result<Transition, Fault> {
+        if self.segment.pool == 0 {
+            return Err(BAD_ADDRESS);
+        }
+        let swapped = decoded.mode == 2 && self.segment.sex == Sex::MostFirst;
+        let mut change = self.on(decoded);
+        for index in 0..i64::from(decoded.count) {
+            let pair = self.segment.pool_bytes(decoded.value + index).ok_or(BAD_ADDRESS)?;
+            let word = if swapped { u16::from_be_bytes(pair) } else { u16::from_le_bytes(pair) };
+            change.sp -= 1;
+            // Below 0 it is far below 6+G, which the check for 4 finds.
+            change.writes.push((u64::try_from(change.sp).unwrap_or(0), word));
         }
         Ok(Transition::Go(change))
+    }
+
+    /// 000: "The first word, W1, with word offset B in the constant pool [...]
+    /// is the minimum index of the table. The next word up, W2, is the maximum
+    /// index. The case table is the next (W2 - W1) + 1 words. [...] If TOS, the
+    /// actual index, is in the range W1 through W2, then jump [...]. Otherwise,
+    /// do nothing."  In bytes, as every jump (open questions 1 and 2).
+    fn case_jump(&self, decoded: &Decoded) -> Result<Transition, Fault> {
+        let word = |offset: i64| self.segment.pool_word(offset).map(i64::from).ok_or(BAD_ADDRESS);
+        let (least, most) = (word(decoded.value)?, word(decoded.value + 1)?);
+        let index = i64::from(self.int(0));
+        if !(least..=most).contains(&index) {
+            return Ok(Transition::Go(self.on(decoded)));
+        }
+        self.jump_by(decoded, word(decoded.value + 2 + (index - least))?)
     }
 
     /// "A call to routine k: [...] The new M and SP are SP-5-DATASIZE. The
@@ -521,6 +587,8 @@ impl View<'_> {
                 }
                 self.push(decoded, &[offset as u16])
             }
+
+            Op::PushPoolWords => self.push_pool_words(decoded),
 
             // 000: "Fetch the word with offset B in the local activation
             // record and push it."
@@ -650,6 +718,7 @@ impl View<'_> {
             Op::Jump => self.jump(decoded, true),
             Op::FalseJump => self.jump(decoded, self.stack(0) & 1 == 0),
             Op::TrueJump => self.jump(decoded, self.stack(0) & 1 == 1),
+            Op::CaseJump => self.case_jump(decoded),
 
             // "the lexical parent's M (current for a local call, 1 for a
             // global, the record reached by DB links for an intermediate)".

@@ -59,6 +59,8 @@ pub struct Segment<'a> {
     pub name: [u8; 8],
     /// Pool pointer, 0 for no pool.
     pub pool: u32,
+    /// Where the real pool starts: W if it has none, 0 if there is no pool.
+    pub real_start: u32,
     pub real_size: u32,
     pub reserved: [u32; 2],
     /// Routine k is `routines[k - 1]`; there are n of them.
@@ -92,10 +94,7 @@ impl<'a> Segment<'a> {
             return Err(refusal(3));
         }
         let pool = word(Self::POOL_WORD);
-        // "pool pointer neither 0 nor 11..W-1"
-        if pool != 0 && !(11..words).contains(&pool) {
-            return Err(refusal(4));
-        }
+        let real_start = check_4_pool(bytes, sex, words, pool)?;
         let dictionary = word(Self::DICTIONARY_WORD);
         let count = check_5_dictionary(bytes, sex, words, dictionary)?;
 
@@ -118,6 +117,7 @@ impl<'a> Segment<'a> {
             relocation,
             name,
             pool,
+            real_start,
             real_size: word(Self::REAL_SIZE_WORD),
             reserved: [word(Self::RESERVED_WORD), word(Self::RESERVED_WORD + 1)],
             routines,
@@ -133,6 +133,30 @@ impl<'a> Segment<'a> {
     pub fn routine(&self, number: u64) -> Option<Routine> {
         let index = usize::try_from(number).ok()?.checked_sub(1)?;
         self.routines.get(index).copied()
+    }
+
+    /// The two bytes of the pool's word at an offset, as they lie.  Request 2
+    /// of 02: "With no pool, or where a word to be read lies at W or above or
+    /// from the real pool's start on, fault 6"; `None` is that fault.
+    pub fn pool_bytes(&self, offset: i64) -> Option<[u8; 2]> {
+        let number = i64::from(self.pool) + offset;
+        // With no pool `real_start` is 0, so that no word is readable.
+        if number >= i64::from(self.real_start) {
+            return None;
+        }
+        let at = usize::try_from(2 * number).ok()?;
+        self.bytes.get(at..at + 2)?.try_into().ok()
+    }
+
+    /// The same as a signed word "in the segment's own sex".  000 of the case
+    /// table: "If the byte sex of the segment is opposite to the host, any of
+    /// these words must be byte-swapped before they are used."
+    pub fn pool_word(&self, offset: i64) -> Option<i16> {
+        let pair = self.pool_bytes(offset)?;
+        Some(match self.sex {
+            Sex::LeastFirst => i16::from_le_bytes(pair),
+            Sex::MostFirst => i16::from_be_bytes(pair),
+        })
     }
 
     /// "G is DATASIZE of its routine 1."  (n is at least 1 after check 5.)
@@ -169,6 +193,25 @@ fn check_2_sex(bytes: &[u8]) -> Result<Sex, Refusal> {
         Some([1, 0]) => Ok(Sex::LeastFirst),
         Some([0, 1]) => Ok(Sex::MostFirst),
         _ => Err(refusal(2)),
+    }
+}
+
+/// "pool pointer neither 0 nor 11..W-1"; request 2 of 02: "The pool's first word
+/// must be 0 or point inside the pool (which ends at W), else refusal 4".  000:
+/// it is "a word pointer relative to the start of the constant pool; if there
+/// are no real constants in the code segment, this word must be 0."  Gives the
+/// real pool's start.
+fn check_4_pool(bytes: &[u8], sex: Sex, words: u32, pool: u32) -> Result<u32, Refusal> {
+    if pool == 0 {
+        return Ok(0);
+    }
+    if !(11..words).contains(&pool) {
+        return Err(refusal(4));
+    }
+    match word_at(bytes, sex, pool) {
+        0 => Ok(words),
+        first if pool + first < words => Ok(pool + first),
+        _ => Err(refusal(4)),
     }
 }
 

@@ -13,12 +13,15 @@ use crate::generate::{
 };
 use crate::hand::table;
 use crate::machine::Kind;
+use crate::pool;
 use crate::products;
 use crate::segment::turn_over;
 use crate::steps::{base, draw, placed, Place};
 use crate::unlinked;
 use crate::world::{Call, Request, World};
+use std::collections::BTreeMap;
 use std::io::{self, Write};
+use std::ops::RangeInclusive;
 
 /// How often each possible step outcome is in the committed set.
 pub const WANTED: usize = 20;
@@ -35,27 +38,33 @@ fn drawn(outcome: Outcome) -> usize {
         (_, UNLINKED) => 3 * WANTED,
         (_, UNLINKED_WHEN_FULL | LINK_BEFORE_UNLINKED | BACK_TO_UNLINKED) => 2 * WANTED,
         // and so do cut instructions
-        (_, cut::CUT..) => WANTED + 5,
+        (_, cut::CUT..=cut::LAST_CUT) => WANTED + 5,
         (Some(128..), GONE_ON | FINISHED | 6 | 7 | 9 | 10) => 2 * WANTED,
         _ => WANTED,
     }
 }
+
+/// How often what LDC and XJP come to is drawn besides the cases by hand.
+const DRAWN_OF_POOLS: usize = 15;
 
 /// A writer with the randomness and the number of cases wanted.
 pub struct Set<'a, Q: Write, A: Write> {
     pub writer: &'a mut Writer<Q, A>,
     rng: Rng,
     most: u64,
+    /// The steps that the cases worked by hand have.
+    by_hand: BTreeMap<Outcome, usize>,
 }
 
 impl<'a, Q: Write, A: Write> Set<'a, Q, A> {
     pub fn new(writer: &'a mut Writer<Q, A>, seed: u64) -> Self {
-        Set { writer, rng: Rng(seed), most: u64::MAX }
+        Set { writer, rng: Rng(seed), most: u64::MAX, by_hand: BTreeMap::new() }
     }
 
     /// The committed set.
     pub fn committed(&mut self) -> io::Result<()> {
         self.worked_by_hand()?;
+        self.by_hand = self.writer.coverage.steps.clone();
         self.writer.remark("single steps: every first byte, every outcome possible for it")?;
         self.every_step()?;
         self.writer.remark("segments judged and turned")?;
@@ -87,11 +96,15 @@ impl<'a, Q: Write, A: Write> Set<'a, Q, A> {
         self.products()
     }
 
-    /// Benches of three sorts.
+    /// Benches of four sorts.
     fn benches(&mut self) -> io::Result<()> {
         self.writer.remark("benches that load, open and run segments with unlinked routines")?;
         for _ in 0..40 {
             self.unlinked_bench()?;
+        }
+        self.writer.remark("benches that load, open and run segments with a constant pool")?;
+        for _ in 0..40 {
+            self.pool_bench()?;
         }
         self.writer.remark("benches that run into the segment's end, some with records of before")?;
         for _ in 0..40 {
@@ -112,7 +125,8 @@ impl<'a, Q: Write, A: Write> Set<'a, Q, A> {
                 26 | 27 => self.unlinked_bench()?,
                 28 => self.large_segment()?,
                 29 | 30 => self.cut_bench()?,
-                31..=44 => self.some_damages(8)?,
+                31 | 32 => self.pool_bench()?,
+                33..=44 => self.some_damages(8)?,
                 45..=63 => self.run()?,
                 64..=75 => self.loading()?,
                 76..=97 => self.sequence()?,
@@ -160,16 +174,14 @@ impl<'a, Q: Write, A: Write> Set<'a, Q, A> {
             let hoped: Vec<Outcome> =
                 possible_outcomes().into_iter().filter(|(byte, _)| *byte == first).collect();
             for _ in 0..200_000 {
-                let coverage = &self.writer.coverage;
-                let lacking = hoped.iter().find(|outcome| coverage.seen(**outcome) < drawn(**outcome));
-                let Some(lacking) = lacking else { break };
+                let Some(lacking) = hoped.iter().find(|outcome| self.lacks(**outcome)) else { break };
                 if used >= SERIES || fruitless > 60 {
                     place = base(&mut self.rng);
                     (used, fruitless) = (0, 0);
                 }
                 let now = if used == 0 { &place.world } else { self.writer.world() };
                 match draw(&mut self.rng, &place, now, *lacking) {
-                    Some((next, outcome)) if self.writer.coverage.seen(outcome) < drawn(outcome) => {
+                    Some((next, outcome)) if self.lacks(outcome) => {
                         used += self.step(&place, next)?;
                     }
                     _ => fruitless += 1,
@@ -179,18 +191,34 @@ impl<'a, Q: Write, A: Write> Set<'a, Q, A> {
         Ok(())
     }
 
+    /// Whether an outcome is to be drawn once more.
+    fn lacks(&self, outcome: Outcome) -> bool {
+        let wanted = match outcome {
+            (_, pool::POOL..) => {
+                let by_hand = self.by_hand.get(&outcome).copied().unwrap_or(0);
+                WANTED.max(by_hand + DRAWN_OF_POOLS)
+            }
+            _ => drawn(outcome),
+        };
+        self.writer.coverage.seen(outcome) < wanted
+    }
+
     /// A series on one world; for each case an outcome is hoped for.
     fn some_steps(&mut self, many: usize) -> io::Result<()> {
         let place = base(&mut self.rng);
         let possible = possible_outcomes();
-        let of_unlinked: Vec<Outcome> = possible
-            .iter()
-            .copied()
-            .filter(|(_, end)| (UNLINKED..=BACK_TO_UNLINKED).contains(end))
-            .collect();
+        let those = |ends: RangeInclusive<u32>| -> Vec<Outcome> {
+            possible.iter().copied().filter(|(_, end)| ends.contains(end)).collect()
+        };
+        let of_unlinked = those(UNLINKED..=BACK_TO_UNLINKED);
+        let of_pools = those(pool::POOL..=u32::MAX);
         let mut used = 0;
         while used < many && !self.full() {
-            let hoped_for = if self.rng.chance(1, 12) { &of_unlinked } else { &possible };
+            let hoped_for = match self.rng.up_to(11) {
+                0 => &of_unlinked,
+                1 | 2 => &of_pools,
+                _ => &possible,
+            };
             let hoped = self.rng.pick(hoped_for, (None, 1));
             let mut chosen = None;
             for _ in 0..12 {
@@ -289,8 +317,13 @@ impl<'a, Q: Write, A: Write> Set<'a, Q, A> {
         let dictionary = self.rng.pick(&[11, words - 2, words - 3, words - 1, words], 11);
         let entry = self.rng.pick(&[words - 2, words - 5, words - 1, 14, 14], 14);
         let exit_ic = self.rng.pick(&[2 * words - 1, 2 * words, 22], 22);
+        let pool = self.rng.pick(&[0, 0, words - 1, words, words / 2], 0);
+        let room = words - 1 - pool;
         generate::put_word(&mut bytes, sex, 0, dictionary);
-        generate::put_word(&mut bytes, sex, 7, self.rng.pick(&[0, 0, words - 1, words], 0));
+        generate::put_word(&mut bytes, sex, 7, pool);
+        if pool > 0 {
+            generate::put_word(&mut bytes, sex, pool, self.rng.pick(&[0, room, room, room + 1], 0));
+        }
         generate::put_word(&mut bytes, sex, entry, self.rng.pick(&[0, 32_767], 0));
         generate::put_word(&mut bytes, sex, entry - 1, exit_ic);
         // sometimes a second routine, unlinked
@@ -406,6 +439,12 @@ impl<'a, Q: Write, A: Write> Set<'a, Q, A> {
     /// A segment with unlinked routines loaded, opened, run and closed.
     fn unlinked_bench(&mut self) -> io::Result<()> {
         let (start, calls) = unlinked::bench_case(&mut self.rng);
+        self.calls_and_soundness(start, calls)
+    }
+
+    /// A segment with a pool loaded, opened, run and closed.
+    fn pool_bench(&mut self) -> io::Result<()> {
+        let (start, calls) = pool::bench_case(&mut self.rng);
         self.calls_and_soundness(start, calls)
     }
 

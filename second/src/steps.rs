@@ -6,10 +6,11 @@ use crate::bench::{Record, Slot};
 use crate::coverage::AboutTo;
 use crate::cut;
 use crate::generate::{
-    operand_size, registers, session_case, telling_factor, telling_integer, telling_mark,
+    operand_size, put_word, registers, session_case, telling_factor, telling_integer, telling_mark,
     telling_operands, telling_word, Outcome, Rng, RunCase, View,
 };
 use crate::machine::{self, Instruction, Kind, Op, Session};
+use crate::pool;
 use crate::segment::Segment;
 use crate::world::{blank_bench, World};
 
@@ -19,10 +20,21 @@ pub struct Place {
     pub session: usize,
 }
 
-/// A place for single steps.
+/// A place for single steps, mostly one whose last bytes may be code; not both
+/// shared words and a region without end, which few lines cannot tell.
 pub fn base(rng: &mut Rng) -> Place {
-    let case = session_case(rng);
+    let mut case = session_case(rng);
+    while case.shared.len() + case.region.len() > 40_000
+        || last_word_is_a_number(&case.segment) && rng.chance(3, 4)
+    {
+        case = session_case(rng);
+    }
     placed(rng, &case)
+}
+
+fn last_word_is_a_number(bytes: &[u8]) -> bool {
+    let segment = Segment::judge(bytes);
+    segment.is_ok_and(|segment| segment.word_positions().contains(&(segment.words - 1)))
 }
 
 /// Put a session with its segment on a bench, often between neighbours that
@@ -106,7 +118,7 @@ pub fn outcome(world: &World, number: usize) -> Option<Outcome> {
     let shared = world.memory.get(..world.bench.shared as usize)?;
     let mut region = world.region(number)?.to_vec();
     let mut session = record.session;
-    let met = AboutTo::meet(&segment, &session);
+    let met = AboutTo::meet(&segment, &session, &region);
     machine::step(&segment, shared, &mut region, &mut session);
     Some(met.outcome(&segment, &session))
 }
@@ -117,18 +129,21 @@ pub fn outcome(world: &World, number: usize) -> Option<Outcome> {
 pub fn draw(rng: &mut Rng, place: &Place, world: &World, hoped: Outcome) -> Option<(World, Outcome)> {
     let (first, hoped_end) = hoped;
     let record = *world.bench.records.get(place.session)?;
-    let segment = Segment::judge(world.segment_bytes(record.slot)?).ok()?;
-    let length = record.length as i64;
-    let mut session = registers(rng, &segment, length);
-    let mut region = world.region(place.session)?.to_vec();
+    let mut bytes = world.segment_bytes(record.slot)?.to_vec();
     let instruction = first.and_then(machine::instruction);
+    if instruction.is_some_and(|row| pool::looks_at_it(row.op)) {
+        pool::vary(rng, &mut bytes, hoped_end);
+    }
+    let segment = Segment::judge(&bytes).ok()?;
+    let mut session = registers(rng, &segment, record.length as i64);
+    let mut region = world.region(place.session)?.to_vec();
     if let Some(row) = &instruction {
         set_words(rng, row, &segment, &session, world.bench.shared as i64, &mut region);
     }
 
     let end = segment.bytes.len() as i64;
-    let mut code = Vec::new();
     session.counter = end as u64;
+    let mut laid = bytes.clone();
     if let Some(first) = first {
         // Where it stands: somewhere, at the very end, or cut off by the end.
         let size = 1 + operand_size(first, rng);
@@ -139,16 +154,41 @@ pub fn draw(rng: &mut Rng, place: &Place, world: &World, hoped: Outcome) -> Opti
             _ => rng.between(22, end - size),
         };
         session.counter = u64::try_from(at).ok().filter(|at| *at >= 22)?;
-        code.push(first);
-        if let Some(row) = &instruction {
-            let shared_length = world.bench.shared as i64;
-            let view = View { segment: &segment, region: &region, session: &session, shared_length };
-            telling_operands(rng, row, &view, at + size, size, &mut code);
-        }
+        let shared_length = world.bench.shared as i64;
+        let view = View { segment: &segment, region: &region, session: &session, shared_length };
+        lay_code(rng, first, &view, size, &mut laid);
     }
-    let next = changed(world, place.session, session, &region, &code)?;
+    let next = changed(world, place.session, session, &region, &laid)?;
     let outcome = outcome(&next, place.session)?;
     Some((next, outcome))
+}
+
+/// An instruction at the counter, as far as there is room, and the case table
+/// that it leads to.
+fn lay_code(rng: &mut Rng, first: u8, view: &View, size: i64, laid: &mut [u8]) {
+    let counter = view.session.counter as usize;
+    let next = counter as i64 + size;
+    let mut code = vec![first];
+    let row = machine::instruction(first);
+    if let Some(row) = &row {
+        telling_operands(rng, row, view, next, size, &mut code);
+    }
+    if row.is_some_and(|row| row.op == Op::CaseJump) {
+        let offset = match code.as_slice() {
+            [_, high @ 128..=255, low] => i64::from(high - 128) * 256 + i64::from(*low),
+            [_, byte, ..] => i64::from(*byte),
+            _ => 0,
+        };
+        let index = view.region.get(view.session.sp as usize).copied().unwrap_or(0);
+        pool::lay_table(rng, laid, offset, next, i64::from(index as i16));
+    }
+    for (place, byte) in laid.iter_mut().skip(counter).zip(code) {
+        *place = byte;
+    }
+    // laid over the pool's first word: mostly there is no pool then
+    if Segment::judge(laid).is_err_and(|refusal| refusal.number == 4) {
+        put_word(laid, view.segment.sex, i64::from(Segment::POOL_WORD), 0);
+    }
 }
 
 /// The words that matter to an instruction: what it takes, and the mark or
@@ -197,25 +237,21 @@ fn set_words(
     }
 }
 
-/// The world with new registers, words and code; only if it is sound.  Code
+/// The world with new registers, words and segment; only if it is sound.  Code
 /// may have been laid over the segment's own words.
 fn changed(
     world: &World,
     number: usize,
     session: Session,
     region: &[u16],
-    code: &[u8],
+    segment: &[u8],
 ) -> Option<World> {
     let mut next = world.clone();
     let record = next.bench.records.get_mut(number)?;
     record.session = session;
     let base = record.base as usize;
-    let slot = *next.bench.slots.get(record.slot as usize)?;
+    let start = next.bench.slots.get(record.slot as usize)?.start as usize;
     next.memory.get_mut(base..base + region.len())?.copy_from_slice(region);
-    let room = (slot.length - session.counter) as usize;
-    let at = (slot.start + session.counter) as usize;
-    for (place, byte) in next.store.iter_mut().skip(at).zip(code.iter().take(room)) {
-        *place = *byte;
-    }
+    next.store.get_mut(start..start + segment.len())?.copy_from_slice(segment);
     next.is_sound().then_some(next)
 }

@@ -94,6 +94,8 @@ pub struct Judged {
     pub dictionary: u32,
     pub relocation: u32,
     pub pool: u32,
+    /// The real pool's start: W for no real pool, 0 for no pool.
+    pub real_start: u32,
     pub real_size: u32,
     pub routines: Vec<segment::Routine>,
 }
@@ -135,6 +137,7 @@ fn told(segment: &Segment) -> Judged {
         dictionary: segment.dictionary,
         relocation: segment.relocation,
         pool: segment.pool,
+        real_start: segment.real_start,
         real_size: segment.real_size,
         routines: segment.routines.clone(),
     }

@@ -96,6 +96,7 @@ fn size(form: Option<Form>, code: &[u8]) -> usize {
         Some(Form::W | Form::DbUb) => 3,
         Some(Form::B) => 1 + big(1),
         Some(Form::DbB) => 2 + big(2),
+        Some(Form::UbBUb) => 3 + big(2),
     }
 }
 
@@ -260,7 +261,7 @@ fn the_old_place_of_one_instruction_is_seen() {
             pairs += 1;
         }
     }
-    assert_eq!(pairs, 54);
+    assert_eq!(pairs, 60);
 }
 
 #[test]

@@ -15,6 +15,7 @@ fn the_carried_first_bytes() {
     for first in 0..=255u8 {
         assert_eq!(instruction(first).is_some(), carried.contains(&first), "{first}");
     }
+    assert_eq!(carried.len(), 140);
 }
 
 #[test]
@@ -51,6 +52,29 @@ fn word_positions() {
     let mut unlinked = hand_segment(0);
     unlinked[26] = 0;
     assert_eq!(positions(&unlinked), [0, 1, 6, 7, 8, 9, 10, 11, 12, 13, 14, 15, 16, 49, 50]);
+}
+
+/// 02, request 2: the words of the pool that may be read, as their bytes lie and
+/// as signed numbers in the segment's own sex.
+#[test]
+fn words_of_the_pool() {
+    let mut bytes = hand_segment(56);
+    bytes[112..].copy_from_slice(&[3, 0, 0xFE, 0xFF, 0x12, 0x34, 1, 2, 3, 4, 5, 6, 7, 8, 9, 10]);
+    let segment = Segment::judge(&bytes).unwrap();
+    assert_eq!((segment.pool, segment.real_start), (56, 59));
+    assert_eq!(segment.pool_bytes(0), Some([3, 0]));
+    assert_eq!(segment.pool_word(1), Some(-2));
+    assert_eq!(segment.pool_bytes(2), Some([0x12, 0x34]));
+    assert_eq!(segment.pool_word(2), Some(0x3412));
+    for offset in [3, 7, 8, 32_767, 65_535 + 32_770] {
+        assert_eq!((segment.pool_bytes(offset), segment.pool_word(offset)), (None, None));
+    }
+    let bytes = hand_segment(0);
+    let segment = Segment::judge(&bytes).unwrap();
+    assert_eq!((segment.pool, segment.real_start), (0, 0));
+    for offset in [0, 11, 56, 63] {
+        assert_eq!(segment.pool_bytes(offset), None);
+    }
 }
 
 #[test]

@@ -66,6 +66,10 @@ module _ (a e : ℕ) (m : List ℕ) (o : a ≤ e) (fits : e ≤ length m) where
         rw q (getD-high (j - e))
 
 -- the len bytes from start on: none from the end on, all that are left where they are too few, else len of them
+-- the part from 0 on, as the borrow checker has `&l[0..]`
+pub part-all : (l : List ℕ) → take (length l - 0) l ≡ l
+part-all l = take-all (length l - 0) l (omega arith)
+
 pub part-none : (l : List ℕ) (start len : ℕ) → length l ≤ start → [] ≡ take len (drop start l)
 part-none l start len h = rw (drop-of-length-le l h) (sym (take-nil len))
 

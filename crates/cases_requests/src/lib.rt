@@ -50,6 +50,7 @@ fn header(h: Segment, routines: u64) {
         h.dict as u64,
         h.reloc as u64,
         h.pool as u64,
+        h.reals as u64,
         h.real as u64,
         h.count as u64,
     ];

@@ -1,13 +1,16 @@
 // The first check that fails, in document 01's order: 1 and 2 of the first byte, its operands, 3, what its meaning asks (9, 8, 5, 6, 7, 10),
-// and 4. Nothing here prints. Above it: `pond_why`. Below it: places, flow and stack, a check each.
+// and 4. Nothing here prints. Above it: `pond_why`. Below it: places, flow, tables and stack, a check each.
 use crate::flow;
 use crate::meaning;
 use crate::meaning::Does;
 use crate::numbers::Numbers;
 use crate::numbers::is_outside;
 use crate::numbers::less;
+use crate::numbers::narrow;
+use crate::numbers::word;
 use crate::places;
 use crate::stack;
+use crate::tables;
 use crate::why::Code;
 use crate::why::Why;
 use crate::why::fault_of;
@@ -64,6 +67,7 @@ fn asks(seg: &[u8], region: &[u16], n: Numbers, d: Does, next: usize) -> Why {
     match d {
         Does::Plain => Why::Holds,
         Does::Pool(x) => places::pool(n, x),
+        Does::Constants(b, k) => tables::constants(seg, b, k),
         Does::Offset(whose, x) => places::offset(region, n, whose, x),
         Does::Index(x) => places::indexed(region, n, x),
         Does::Store => places::stored(region, n),
@@ -71,6 +75,7 @@ fn asks(seg: &[u8], region: &[u16], n: Numbers, d: Does, next: usize) -> Why {
         Does::Subrange => stack::ranged(region, n),
         Does::Jump(x) => flow::jump(n, next, x),
         Does::JumpIf(want, x) => flow::branch(region, n, want, next, x),
+        Does::Case(b) => tables::case(seg, word(region, n.sp as usize), b, narrow(next)),
         Does::Call(whose, k) => flow::call(seg, region, n, whose, k),
         Does::Return(b) => flow::back(region, n, b),
     }
@@ -80,6 +85,7 @@ fn asks(seg: &[u8], region: &[u16], n: Numbers, d: Does, next: usize) -> Why {
 fn room(seg: &[u8], n: Numbers, d: Does, taken: u8, given: u8) -> Why {
     match d {
         Does::Call(_, k) => stack::entered(n, k, segment::routine_of(seg, k).datasize),
+        Does::Constants(_, k) => stack::block(n, k),
         // its new SP was judged with its mark
         Does::Return(_) => Why::Holds,
         _ => stack::deep(n, taken, given),

@@ -8,6 +8,7 @@ mod meaning;
 mod numbers;
 mod places;
 mod stack;
+mod tables;
 mod why;
 
 pub use judged::first_failing;

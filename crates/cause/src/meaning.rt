@@ -13,6 +13,8 @@ pub enum Does {
     Plain,
     // a constant of the pool
     Pool(u16),
+    // so many words of the pool, from an offset on
+    Constants(u16, u16),
     // a word of a record: loaded, stored, or its address
     Offset(Whose, u16),
     // a word so many words on from an address
@@ -23,6 +25,8 @@ pub enum Does {
     Jump(u16),
     // the bit that makes it jump, and the distance
     JumpIf(u16, u16),
+    // the case table's offset in the pool
+    Case(u16),
     Call(Whose, u16),
     Return(u16),
 }
@@ -30,6 +34,10 @@ pub enum Does {
 pub fn of(i: Instruction) -> Does {
     if i.first < 128 {
         return short(i.first);
+    }
+    // LDC, the one with three operands; its mode changes no check
+    if i.first == 131 {
+        return Does::Constants(i.y, i.z);
     }
     long(i.first, i.x, i.y)
 }
@@ -77,6 +85,8 @@ fn going(first: u8, x: u16, y: u16) -> Does {
         // FJP, FJPL, TJP
         212 | 213 => Does::JumpIf(0, x),
         241 => Does::JumpIf(1, x),
+        // XJP
+        214 => Does::Case(x),
         // CPL, CPG, CPI, SCPI1, SCPI2
         144 => Does::Call(Whose::Up(0), x),
         145 => Does::Call(Whose::Globals, x),

@@ -45,7 +45,7 @@ pub fn ranged(region: &[u16], n: Numbers) -> Why {
     Why::Stack(Stack::Range(value, low, high))
 }
 
-// 4, of all but calls: SP after the words taken and given.
+// 4, of all but calls and LDC: SP after the words taken and given.
 pub fn deep(n: Numbers, taken: u8, given: u8) -> Why
     ensures { λ r. ⌜ faultOf r ≡ cond (ltb (n .sp + taken - given) (n .floor)) 4 0 ⌝ }
 {
@@ -64,4 +64,14 @@ pub fn entered(n: Numbers, k: u16, size: u16) -> Why
         return Why::Holds;
     }
     Why::Stack(Stack::Room(k, size, less(n.sp as usize, n.floor as usize)))
+}
+
+// 4, of LDC: so many words, the last of them on top.
+pub fn block(n: Numbers, k: u16) -> Why
+    ensures { λ r. ⌜ faultOf r ≡ cond (ltb (n .sp) (n .floor + k)) 4 0 ⌝ }
+{
+    if n.floor as usize + k as usize <= n.sp as usize {
+        return Why::Holds;
+    }
+    Why::Stack(Stack::Block(k, less(n.sp as usize, n.floor as usize)))
 }

@@ -37,6 +37,8 @@ pub enum Stack {
     Deep(usize),
     // routine, its DATASIZE, words free
     Room(u16, u16, usize),
+    // words pushed from the pool, words free
+    Block(u16, usize),
 }
 
 // Fault 6 of a word that the operands name.
@@ -46,6 +48,13 @@ pub enum Place {
     // no pool; the constant's number and its word
     NoPool,
     Pool(u16, usize),
+    // the first and the last of the words of the pool that are pushed, and the word before which they must lie
+    Constants(u32, u32, usize),
+    // no pool for a case table; the first of the two words with its lowest and highest index, and the word before which they must lie
+    NoTable,
+    Table(u32, usize),
+    // an index, its word of the table, and the word before which that must lie
+    Arm(u16, u32, usize),
 }
 
 // Fault 6 of an address from the stack.
@@ -66,6 +75,9 @@ pub enum Flow {
     // the jump's target; how far it lies below 0
     Target(usize),
     Before(usize),
+    // the same of a case table, and the index that leads there
+    Case(u16, usize),
+    CaseBefore(u16, usize),
     // the routine called: not there, or not linked
     Routine(u16),
     Unlinked(u16),
@@ -114,6 +126,7 @@ fn of_stack(s: Stack) -> u8
         Stack::Range(_, _, _) => 10,
         Stack::Deep(_) => 4,
         Stack::Room(_, _, _) => 4,
+        Stack::Block(_, _) => 4,
     }
 }
 
@@ -123,6 +136,8 @@ fn of_flow(f: Flow) -> u8
     match f {
         Flow::Target(_) => 7,
         Flow::Before(_) => 7,
+        Flow::Case(_, _) => 7,
+        Flow::CaseBefore(_, _) => 7,
         Flow::Routine(_) => 8,
         Flow::Unlinked(_) => 8,
         Flow::Link(_, _, _, _) => 9,

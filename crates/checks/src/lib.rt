@@ -1,6 +1,7 @@
 // The verdict on a segment: checks 1 to 5, then 6, 7 and 8 of each routine in turn.
 // Below: the numbers of a segment, and what each check asks. Above: loading, turning, and the soundness of the bench, which judges every loaded slot.
 use operand::byte_at;
+use operand::word_at;
 use operand::word_in;
 use segment::Segment;
 use segment::Verdict;
@@ -40,11 +41,15 @@ fn sex_ok(seg: &[u8]) -> bool
     )
 }
 
-// Of W and the pool pointer.
-fn pool_ok(w: usize, p: u16) -> bool
-    ensures { λ r. ⌜ r ≡ (eqb p 0 || inside 11 w p) ⌝ }
+// Of W, the pool pointer and the pool's first word.
+fn pool_ok(w: usize, p: u16, first: u16) -> bool
+    ensures { λ r. ⌜ r ≡ (eqb p 0 || (inside 11 w p && ltb (p + first) w)) ⌝ }
 {
-    bounds::either(p == 0, bounds::within(Segment::BODY, w, p as usize))
+    let reals = (p as usize) + (first as usize);
+    bounds::either(
+        p == 0,
+        bounds::both(bounds::within(Segment::BODY, w, p as usize), reals < w),
+    )
 }
 
 // Of W, the dictionary pointer and the number of routines.
@@ -63,8 +68,9 @@ fn judge_head(seg: &[u8]) -> Verdict
     ensures { λ r. ⌜ rulingOf r ≡ ruling (headChecks (now (seg .entry))) ⌝ }
 {
     let h = segment::head(seg);
+    let first = word_at(seg, h.least, h.pool as u32);
     let v5 = checked(dict_ok(h.words, h.dict, h.count), 5, 0, Verdict::Accepted);
-    let v4 = checked(pool_ok(h.words, h.pool), 4, 0, v5);
+    let v4 = checked(pool_ok(h.words, h.pool, first), 4, 0, v5);
     let v3 = checked(h.reloc == 0, 3, 0, v4);
     let v2 = checked(sex_ok(seg), 2, 0, v3);
     checked(shape_ok(seg), 1, 0, v2)

@@ -1,22 +1,26 @@
 -- `demands` is a proof of the record in specs/Demands: each field is the theorem of the layer that it speaks of.
 -- Above: nothing. Below: basis, operand, turning, promises, isolation, and the witness.
 use mathlib.Core.Path.{_≡_, refl}
+use mathlib.Core.Logic.{_↔_, _⊎_}
 use mathlib.Core.List.{List}
-use Prim.Native.Nat.{ℕ}
+use mathlib.Core.Bool.{true}
+use Prim.Native.Nat.{ℕ, _+_, _≤_, _<_}
 use Rattle.basis.specs.Checks.{ruling}
 use Rattle.basis.proofs.Checks.{all-pass, pass-all, first-failing, failing-first}
 use Rattle.basis.proofs.Integer.{division, remainder-smaller, remainder-sign}
 use Rattle.operand.specs.Operand.{out}
 use Rattle.operand.specs.Reading.{Lies}
 use Rattle.operand.proofs.Operands.{reads}
+use Rattle.segment.specs.Head.{words, word, pool, poolFirst, poolOk}
 use Rattle.segment.specs.Judge.{checks, judged}
-use Rattle.segment.proofs.Laws.{unlinked-checks, unlinked-first, unlinked-numbers}
+use Rattle.segment.proofs.Laws.{unlinked-checks, unlinked-first, unlinked-numbers, pool-check, four}
 use Rattle.turning.proofs.Positions.{unlinked-words, turn-as-judged, turn-nine, turn-ten, turn-accepts}
 use Rattle.turning.proofs.Twice.{once, twins}
 use Rattle.turning.proofs.Outputs.{kept, writes, turns-back}
 use Rattle.pmachine.proofs.Rows.{lines-consecutive}
 use Rattle.pmachine.proofs.Frame.{step-kept}
 use Rattle.pmachine.proofs.Places.{fault-place, fault-one, first-missing, place-outside, place-others, place-at-end}
+use Rattle.pmachine.proofs.Pushed.{ldc-judged, xjp-judged, in-range, stack-holds, stack-order, pool-words, ldc-reads, xjp-reads}
 use Rattle.pmachine.proofs.Keeps.{step-keeps, run-keeps}
 use Rattle.pmachine.proofs.Runs.{run-add, count-add, count-most, count-all}
 use Rattle.sound.specs.Bench.{World}
@@ -41,6 +45,10 @@ judged-is : (s : List ℕ) → judged s ≡ ruling (checks s)
 unfolding judged
 judged-is s = refl
 
+pool-checked : (s : List ℕ) → (poolOk s ≡ true) ↔ ((pool s ≡ 0) ⊎ ((11 ≤ pool s) × (pool s + word s (pool s) < words s)))
+unfolding poolFirst
+pool-checked s = pool-check s
+
 pub demands : Demands
 demands =
     record {
@@ -51,6 +59,8 @@ demands =
       unlinked-first = unlinked-first;
       unlinked-words = unlinked-words;
       unlinked-numbers = unlinked-numbers;
+      pool-check = pool-checked;
+      pool-refused = four;
       turned-by = turn-as-judged;
       turned-nine = turn-nine;
       turned-ten = turn-ten;
@@ -82,6 +92,16 @@ demands =
       place-outside = place-outside;
       place-others = place-others;
       place-at-end = place-at-end;
+      ldc-judged = ldc-judged;
+      xjp-judged = xjp-judged;
+      in-range = in-range;
+      stack-holds = λ s shared t mode b n next high i now then.
+          let h = stack-holds s shared t mode b n next high i now then in
+          record { stack = h .stack; below = h .below; count = h .count; registers = h .registers };
+      stack-order = stack-order;
+      pool-words = pool-words;
+      ldc-reads = ldc-reads;
+      xjp-reads = xjp-reads;
       step-keeps = step-keeps;
       run-keeps = run-keeps;
       run-add = run-add;
@@ -104,6 +124,7 @@ demands =
             same-dict = w .dicts;
             same-reloc = w .relocs;
             same-pool = w .pools;
+            same-real-pool = w .real-pools;
             same-real = w .reals;
             same-reserved = (w .reserved-9, w .reserved-10);
             same-count = w .counts;

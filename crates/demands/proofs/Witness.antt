@@ -6,13 +6,15 @@ use Rattle.basis.specs.Bools.{every, inside}
 use Rattle.basis.specs.Part.{part, splice}
 use Rattle.operand.specs.Bytes.{wordBy}
 use Rattle.operand.specs.Operand.{ifThere, fetched}
-use Rattle.segment.specs.Head.{least, word, dict, reloc, pool, count, entry, linked, datasize, exitic, start, sexBytes}
+use Rattle.segment.specs.Head.{least, word, dict, reloc, pool, poolFirst, realPool, count, entry, linked, datasize, exitic, start, sexBytes}
 use Rattle.basis.specs.Checks.{passed, ruling}
 use Rattle.segment.specs.Judge.{headChecks, routineChecks, routinesFrom, checks, judged}
 use Rattle.turning.specs.Turn.{frame, framed, position, other, listOf, swapByte, swapAt, turned}
 use Rattle.pmachine.specs.Opcode.{opcode, rowIn, appendixB}
 use Rattle.pmachine.specs.Decoding.{joined, andThen, operands, lawful, allLawful, decodedWith, rowDecoded, decode, comesTo, rowComesTo, fetchesTo}
-use Rattle.pmachine.specs.Step.{reached, markAt, resumes, groundFor, firstFault, asks, effect, outcome, judgedBy, judge}
+use Rattle.basis.specs.Integer.{modulo, integerOf, wordOf, binary, truth, ordered, subOf, leqOf}
+use Rattle.pmachine.specs.Pool.{inPool, swaps, wordsFrom, constantsOf, onTop, inTable, armOffset}
+use Rattle.pmachine.specs.Step.{target, caseTarget, reached, markAt, resumes, groundFor, firstFault, asks, effect, outcome, judgedBy, judge}
 use Rattle.pmachine.specs.Sound.{kindInRange, inRange, starting}
 use Rattle.pmachine.specs.Run.{isReady, written, placeOf, settled, step, run, stepsDone}
 use Rattle.session.specs.Session.{startOf, cpuOk, runOf, countOf}
@@ -23,7 +25,7 @@ use Rattle.entry.specs.Entries.{newOf, loadOf, lenOk, gapAt, gapOf, openOf, tur
 use Rattle.promises.specs.Requests.{loading, opening, turning}
 use Rattle.promises.proofs.Kept.{new-sound}
 use Rattle.promises.proofs.Requests.{stays-sound}
-use Rattle.demands.specs.Witness.{segment, unlinked, declared, linking, calling, short, ranOut, earlier, store, loaded, opened, ran, openings, full, Witness}
+use Rattle.demands.specs.Witness.{segment, unlinked, declared, linking, calling, short, ranOut, earlier, word as byteSexed, units, pools, reporting, reported, store, loaded, opened, ran, openings, full, Witness}
 
 made : answerRuling (newOf 56 4 .answer) ≡ passed
 unfolding newOf limitsOk every
@@ -44,9 +46,10 @@ ran-sound =
     (stays-sound store (loading 0 0 32) _ made-sound))))))
 
 pub witness : Witness
-unfolding segment unlinked declared linking calling short ranOut earlier store loaded opened ran openings full frame framed position other listOf swapByte swapAt turned
-    every inside part splice wordBy ifThere fetched least word dict reloc pool count entry linked datasize exitic start sexBytes headChecks
+unfolding segment unlinked declared linking calling short ranOut earlier byteSexed units pools reporting reported store loaded opened ran openings full frame framed position other listOf swapByte swapAt turned
+    every inside part splice wordBy ifThere fetched least word dict reloc pool poolFirst realPool count entry linked datasize exitic start sexBytes headChecks
     routineChecks routinesFrom checks ruling judged opcode rowIn appendixB joined andThen operands lawful allLawful decodedWith rowDecoded decode
+    modulo integerOf wordOf binary truth ordered subOf leqOf inPool swaps wordsFrom constantsOf onTop inTable armOffset target caseTarget
     reached markAt resumes groundFor firstFault asks effect outcome judgedBy judge kindInRange inRange starting isReady written comesTo rowComesTo fetchesTo placeOf settled step run
     stepsDone startOf cpuOk runOf countOf limitsOk slotOk placed apart sessionOk soundB refusing newOf loadOf lenOk gapAt gapOf openOf turnOf closeOf
 witness =
@@ -67,6 +70,13 @@ witness =
       ran-out-counter = refl;
       earlier-turn = refl;
       earlier-place = refl;
+      units-words = refl;
+      twin-words = refl;
+      units-finished = (refl, refl);
+      real-pool = refl;
+      real-pool-words = refl;
+      first-word = refl;
+      first-word-sound = refl;
       no-bench = refl;
       not-sound = refl;
       no-session = refl;

@@ -2,25 +2,29 @@
 -- and proofs/Demands proves the record: a theorem that is deleted or weakened anywhere below no longer fits, and the build breaks. That the code's
 -- entries are these definitions is said by the functions of src/, which state every entry's contract again. docs/PROMISES.md follows this file.
 use mathlib.Core.Path.{_≡_}
-use mathlib.Core.Logic.{_↔_}
-use mathlib.Core.List.{List, [], map}
-use mathlib.Core.Bool.{Bool, true, false, not, _||_}
+use mathlib.Core.Logic.{_↔_, _⊎_}
+use mathlib.Core.List.{List, [], _++_, map}
+use mathlib.Core.Bool.{Bool, true, false, not, _&&_, _||_, cond}
 use Prim.Native.Nat.{ℕ, suc, _+_, _*_, _-_, _/_, _≤_, _<_}
 use lib.ListN.{length, getD, take, drop}
+use lib.Dec.{leb, ltb}
 use lib.IntN.{ℤ, pos, negsuc, negℤ, natAbs, _+ℤ_, _*ℤ_}
-use lib.Signed.{quotZ, remZ}
+use lib.Signed.{quotZ, remZ, leZ}
 use Rattle.basis.specs.Bools.{inside}
+use Rattle.basis.specs.Integer.{integerOf}
 use Rattle.basis.specs.Checks.{Check, passed, refused, ruling, passes, FirstFailing}
-use Rattle.operand.specs.Bytes.{byteAt}
+use Rattle.operand.specs.Bytes.{byteAt, wordBy}
 use Rattle.operand.specs.Operand.{Form, got, out, fetched}
-use Rattle.segment.specs.Head.{words, least, word, dict, reloc, pool, real, count, entry, datasize, exitic, start}
+use Rattle.segment.specs.Head.{words, least, word, dict, reloc, pool, realPool, real, count, entry, datasize, exitic, start, shapeOk, sexOk, relocOk, poolOk}
 use Rattle.segment.specs.Judge.{headChecks, routineChecks, checks, judged}
 use Rattle.pmachine.specs.State.{Registers, faulted, State}
 use Rattle.pmachine.specs.Opcode.{appendixB, consecutive}
 use Rattle.pmachine.specs.Decoding.{faulty, decode}
-use Rattle.pmachine.specs.Step.{fault, judge}
+use Rattle.pmachine.specs.Pool.{inPool, swaps, constantsOf, onTop, lowest, highest, inTable, armOffset}
+use Rattle.pmachine.specs.Step.{fault, goes, floor, moved, caseTarget, judge}
 use Rattle.pmachine.specs.Run.{isReady, placeOf, step, run, stepsDone}
 use Rattle.pmachine.specs.Sound.{inRange, Loaded}
+use Rattle.pmachine.specs.Pushed.{IsLdc, IsXjp, SamePool}
 use Rattle.turning.specs.Turn.{framed, position, swapAt, turned, turnRuling, outputOf}
 use Rattle.interleave.specs.Interleave.{By, mine, oneByOne, Below}
 use Rattle.sound.specs.Below.{startOf, cpuOf, runOf, countOf}
@@ -68,6 +72,14 @@ pub record Closed (w v : World) (i : ℕ) : Type 0 where
   pub freed-words : (j : ℕ) → InRegion w i j → Free v j
   pub only : OnlyThere w v i (sessionAt w i .base) (sessionAt w i .len)
 
+-- ---- what LDC leaves, from a state t in u
+
+pub record StackThen (s : List ℕ) (mode b n next : ℕ) (t u : State) : Type 0 where
+  pub stack : drop (u .registers .sp) (u .words) ≡ onTop (constantsOf s mode b n) ++ drop (t .registers .sp) (t .words)
+  pub below : take (u .registers .sp) (u .words) ≡ take (u .registers .sp) (t .words)
+  pub count : u .registers .sp + n ≡ t .registers .sp
+  pub registers : u .registers ≡ record { sp = t .registers .sp - n; m = t .registers .m; counter = next; routine = t .registers .routine }
+
 -- ---- t is s in the other byte sex
 
 pub record OtherSex (s t : List ℕ) : Type 0 where
@@ -81,6 +93,7 @@ pub record OtherSex (s t : List ℕ) : Type 0 where
   pub same-dict : dict t ≡ dict s
   pub same-reloc : reloc t ≡ reloc s
   pub same-pool : pool t ≡ pool s
+  pub same-real-pool : realPool t ≡ realPool s
   pub same-real : real t ≡ real s
   pub same-reserved : (word t 9 ≡ word s 9) × (word t 10 ≡ word s 10)
   pub same-count : count t ≡ count s
@@ -127,6 +140,9 @@ pub record Demands : Type 0 where
   pub unlinked-first : (s : List ℕ) → entry s 1 ≡ 0 → ruling (headChecks s) ≡ passed → judged s ≡ refused 6 1
   pub unlinked-words : (s : List ℕ) (k w : ℕ) → entry s (suc k) ≡ 0 → framed s (suc k) w ≡ framed s k w
   pub unlinked-numbers : (s : List ℕ) (k : ℕ) → entry s k ≡ 0 → (datasize s k ≡ 0) × (exitic s k ≡ 0) × (start s k ≡ 0)
+  -- request 2: "The pool's first word must be 0 or point inside the pool (which ends at W), else refusal 4": check 4, behind 1 to 3 and before all others
+  pub pool-check : (s : List ℕ) → (poolOk s ≡ true) ↔ ((pool s ≡ 0) ⊎ ((11 ≤ pool s) × (pool s + word s (pool s) < words s)))
+  pub pool-refused : (s : List ℕ) → shapeOk s ≡ true → sexOk s ≡ true → relocOk s ≡ true → poolOk s ≡ false → judged s ≡ refused 4 0
   pub turned-by : (s : List ℕ) (room n p : ℕ) → judged s ≡ refused n p → turnRuling s room ≡ refused n p
   pub turned-nine : (s : List ℕ) (room : ℕ) → judged s ≡ passed → (pool s ≡ 0 → ⊥) → turnRuling s room ≡ refused 9 0
   pub turned-ten : (s : List ℕ) (room : ℕ) → judged s ≡ passed → pool s ≡ 0 → room < length s → turnRuling s room ≡ refused 10 0
@@ -190,6 +206,52 @@ pub record Demands : Type 0 where
   pub place-at-end :
       (s shared : List ℕ) (l : ℕ) → Loaded s → (k : ℕ) (t : State) → length (t .words) ≡ l → inRange s l (t .registers) (t .kind) ≡ true
       → isReady (t .kind) ≡ true → (p : ℕ) → run s shared k t .kind ≡ faulted 1 p → p ≡ 2 * words s
+  -- request 2, "Constants and case tables". LDC with these operands at the counter: 6 exactly if its words cannot be read, 4 exactly if they can and the stack
+  -- has no room; else the words are written below the old top
+  pub ldc-judged :
+      (s shared w : List ℕ) (r : Registers) (mode b n next : ℕ) → r .sp ≤ length w → IsLdc s (r .counter) mode b n next
+      → judge s shared w r
+      ≡ cond (inPool s b n)
+      (cond (leb (floor s + n) (r .sp)) (goes (moved r (r .sp - n) next) (r .sp - n) (onTop (constantsOf s mode b n))) (fault 4))
+      (fault 6)
+  -- XJP: 3 exactly if there is no index, 6 exactly if W1 and W2 cannot be read or the word of an index in range, "a case target outside 22..2W-1
+  -- gives fault 7", and an index out of range goes on
+  pub xjp-judged :
+      (s shared w : List ℕ) (r : Registers) (b next : ℕ) → floor s ≤ r .sp → IsXjp s (r .counter) b next
+      → judge s shared w r
+      ≡ cond (ltb (length w) (r .sp + 1)) (fault 3)
+      (cond (inPool s b 2)
+      (cond (inTable s b (getD w (r .sp) 0))
+      (cond (inPool s (armOffset s b (getD w (r .sp) 0)) 1)
+      (cond (inside 22 (length s) (caseTarget s b next (getD w (r .sp) 0)))
+      (goes (moved r (r .sp + 1) (caseTarget s b next (getD w (r .sp) 0))) (r .sp + 1) [])
+      (fault 7))
+      (fault 6))
+      (goes (moved r (r .sp + 1) next) (r .sp + 1) []))
+      (fault 6))
+  -- "in the range W1 through W2", as integers
+  pub in-range :
+      (s : List ℕ) (b i : ℕ)
+      → inTable s b i ≡ (leZ (integerOf 16 (lowest s b)) (integerOf 16 i) && leZ (integerOf 16 i) (integerOf 16 (highest s b)))
+  -- "Show once, over the count of words, what the stack then holds": for every n, after LDC that does not fault the stack, read from SP upward, is
+  -- the n words in the order that `onTop` fixes and then the old stack; every word below is as it was; only SP, by n, and the counter moved
+  pub stack-holds :
+      (s shared : List ℕ) (t : State) (mode b n next : ℕ) → t .registers .sp ≤ length (t .words) → IsLdc s (t .registers .counter) mode b n next
+      → isReady (t .kind) ≡ true → isReady (step s shared t .kind) ≡ true → StackThen s mode b n next t (step s shared t)
+  -- that order, word by word: the last word of the block is on top; each is read least byte first, unless the mode is 2 and the segment most byte first
+  pub stack-order :
+      (s : List ℕ) (mode b n i : ℕ) → i < n → getD (onTop (constantsOf s mode b n)) i 0 ≡ wordBy (not (swaps s mode)) s (pool s + b + (n - suc i))
+  -- every word that either instruction may read lies in the pool and below the real pool; and no other is read: two segments that agree in those words, in
+  -- their header numbers and in the instruction are judged alike
+  pub pool-words :
+      (s : List ℕ) → Loaded s → (b n i : ℕ) → inPool s b n ≡ true → i < n
+      → (1 ≤ pool s) × (pool s + b + i < realPool s) × (realPool s ≤ words s)
+  pub ldc-reads :
+      (s t shared w : List ℕ) (r : Registers) (mode b n next : ℕ) → r .sp ≤ length w → SamePool s t
+      → IsLdc s (r .counter) mode b n next → IsLdc t (r .counter) mode b n next → judge t shared w r ≡ judge s shared w r
+  pub xjp-reads :
+      (s t shared w : List ℕ) (r : Registers) (b next : ℕ) → floor s ≤ r .sp → SamePool s t
+      → IsXjp s (r .counter) b next → IsXjp t (r .counter) b next → judge t shared w r ≡ judge s shared w r
   -- a step, and a turn, keep what soundness says of a session
   pub step-keeps :
       (s shared : List ℕ) (l : ℕ) → Loaded s → (t : State) → length (t .words) ≡ l → inRange s l (t .registers) (t .kind) ≡ true

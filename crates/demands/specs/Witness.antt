@@ -1,11 +1,11 @@
 -- The promises are not empty: the entries lead from nothing to a sound bench with a ready, a finished and a faulted session, and each of them
--- takes a turn; a segment with a routine that is not linked loads; a report that ends within an instruction faults where its bytes ran out; and
--- refusals 1, 6 and 11 to 17 are each given to somebody. So no runner that refuses everything, and no loader that takes everything, meets the contracts.
+-- takes a turn; a segment with a routine that is not linked loads; a report that ends within an instruction faults where its bytes ran out; one with a
+-- pool runs in either byte sex; and refusals 1, 4, 6 and 11 to 17 are each given to somebody. So no runner that refuses everything, and no loader that takes everything, meets the contracts.
 -- Proved as `witness` in proofs/Witness, by computing. Above: Demands. Below: bench's entries.
 use mathlib.Core.Path.{_≡_}
-use mathlib.Core.Bool.{true}
+use mathlib.Core.Bool.{Bool, true, false, cond}
 use mathlib.Core.List.{List, [], _∷_, _++_}
-use Prim.Native.Nat.{ℕ, zero, suc}
+use Prim.Native.Nat.{ℕ, zero, suc, _/_, _%_}
 use lib.ListN.{replicate, set, take, drop}
 use Rattle.machine.specs.declared.Kind.the-variants.{Ready, Finished, Faulted}
 use Rattle.sound.specs.Bench.{World, worldOf, sessionAt, wordsOf, at-cpu, at-sessions}
@@ -50,6 +50,33 @@ earlier =
     (at-sessions (ranOut .bench)
     (set (ranOut .bench .sessions) 0 (at-cpu (sessionAt ranOut 0) (record { kind = Faulted 1 30; regs = sessionAt ranOut 0 .cpu .regs }))))
     (ranOut .mem)
+
+-- a report with a pool, in either byte sex: LDC 2 1 2 (two words of it), SLDC 1, XJP 3 (by the table behind them, of indexes -1 to 1), and where that leads
+-- SLDC 9 and RPU 0; the other arms lead to a RPU 0. The pool is words 22 to 29, and its first word is `first`.
+unfoldable pub word : Bool → ℕ → List ℕ
+word least v = cond least (v % 256 ∷ v / 256 ∷ []) (v / 256 ∷ v % 256 ∷ [])
+
+unfoldable pub units : Bool → ℕ → List ℕ
+units least first =
+    word least 11 ++ (word least 0 ++ (0x50 ∷ 0x4F ∷ 0x4E ∷ 0x44 ∷ 0x20 ∷ 0x20 ∷ 0x20 ∷ 0x20 ∷ [] ++ (word least 1 ++ (word least 22 ++ (word least 2
+    ++ (0 ∷ 0 ∷ 0 ∷ 0 ∷ [] ++ (word least 1 ++ (word least 14 ++ (word least 30 ++ (word least 0
+    ++ (131 ∷ 2 ∷ 1 ∷ 2 ∷ 1 ∷ 214 ∷ 3 ∷ 150 ∷ 0 ∷ 156 ∷ 9 ∷ 150 ∷ 0 ∷ 156 ∷ []
+    ++ (word least first ++ (word least 300 ++ (word least 7
+    ++ (word least 65535 ++ (word least 1 ++ (word least 0 ++ (word least 0 ++ word least 3))))))))))))))))))
+
+-- both sexes of it with no real pool, one whose real pool is its last word, and a bench with a session on each, after a turn
+unfoldable pub pools : List ℕ
+pools = units true 0 ++ (units false 0 ++ units true 7)
+
+unfoldable pub reporting : World
+reporting =
+    openOf pools 2 16
+    (openOf pools 1 16
+    (openOf pools 0 16
+    (loadOf pools 2 120 60 (loadOf pools 1 60 60 (loadOf pools 0 0 60 (worldOf (newOf 56 4 .bench) (replicate 56 0)) .world) .world) .world) .world) .world) .world
+
+unfoldable pub reported : World
+reported = turnOf pools 2 9 (turnOf pools 1 9 (turnOf pools 0 9 reporting .world) .world) .world
 
 -- the small segment, then one that returns at once (RPU 0)
 unfoldable pub store : List ℕ
@@ -97,6 +124,15 @@ pub record Witness : Type 0 where
   pub ran-out-counter : sessionAt ranOut 0 .cpu .regs .counter ≡ 30
   pub earlier-turn : turnOf short 0 9 earlier .answer ≡ Done 0
   pub earlier-place : sessionAt (turnOf short 0 9 earlier .world) 0 .cpu .kind ≡ Faulted 1 30
+  -- request 2: in either sex the report pushes its two words, the last on top, chooses by its table and finishes; if the table's last word is the real pool's
+  -- it faults with 6 at XJP, with its words as before; a first word that points at W is refused with 4, and a slot that holds one is not sound
+  pub units-words : drop 13 (wordsOf reported (sessionAt reported 0)) ≡ 9 ∷ 7 ∷ 300 ∷ []
+  pub twin-words : drop 13 (wordsOf reported (sessionAt reported 1)) ≡ 9 ∷ 7 ∷ 300 ∷ []
+  pub units-finished : (sessionAt reported 0 .cpu .kind ≡ Finished) × (sessionAt reported 1 .cpu .kind ≡ Finished)
+  pub real-pool : sessionAt reported 2 .cpu .kind ≡ Faulted 6 35
+  pub real-pool-words : drop 13 (wordsOf reported (sessionAt reported 2)) ≡ 1 ∷ 7 ∷ 300 ∷ []
+  pub first-word : loadOf (pools ++ units true 8) 3 180 60 reported .answer ≡ Refused 4 0
+  pub first-word-sound : turnOf (units true 8 ++ drop 60 pools) 1 1 reported .answer ≡ Refused 11 0
   -- refusals; the entry that is refused with 6 is a zero of routine 1
   pub no-bench : newOf 56 57 .answer ≡ Refused 17 0
   pub not-sound : turnOf [] 0 1 ran .answer ≡ Refused 11 0

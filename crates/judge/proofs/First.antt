@@ -52,9 +52,9 @@ module _ (s shared w : List ℕ) (q : Regs) (d : Byte) (e : d ≡ firstOf s (q .
       go true = refl
       go false = refl
 
-  pub stops : d ≡ Outside → outcomeOf q (Bad 1) ≡ judge s shared w (regsOf q)
+  pub stops : d ≡ Outside → outcomeOf s q (Bad 1) ≡ judge s shared w (regsOf q)
   unfolding judgedBy restOf
-  stops p = bad q 1 ∙ sym (rest ∙ ap (λ (z : Byte). judgedBy s shared w (regsOf q) (restOf s (q .counter) z)) p)
+  stops p = bad s q 1 ∙ sym (rest ∙ ap (λ (z : Byte). judgedBy s shared w (regsOf q) (restOf s (q .counter) z)) p)
 
   pub goes-on : (b : ℕ) → d ≡ Decoded b → {P : Outcome} → P ≡ judgedBy s shared w (regsOf q) (rowDecoded (opcode b) s (q .counter + 1)) → P ≡ judge s shared w (regsOf q)
   unfolding restOf

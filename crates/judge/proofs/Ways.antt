@@ -23,7 +23,7 @@ use Rattle.plan.specs.declared.Link.the-variants.{Record}
 use Rattle.plan.specs.Answer.{regsOf, linkOf, outcomeOf}
 use Rattle.plan.specs.Told.{Ready}
 use Rattle.plan.proofs.Meanings.{instr}
-use Rattle.plan.proofs.Decodes.{none, cut1, got1, cut2, deep2, got2, came, ran-out, came-high, fetched-DB, no-row, walked-high}
+use Rattle.plan.proofs.Decodes.{none, cut1, got1, cut2, cut3, got3, deep2, got2, came, ran-out, came-high, fetched-DB, no-row, walked-high}
 use Rattle.plan.proofs.Arms.{row, bad}
 
 -- of a byte b whose row is that of a key, and whose operands stand at `at`
@@ -35,8 +35,8 @@ module _ {s shared w : List ℕ} {q : Regs} {f : Facts} (ready : Ready s f share
   says b {x} e {P} = row s shared w (regsOf q) at P b x e
 
   -- a byte that is not carried, and one of a range, with no operand
-  pub unknown : (b : ℕ) → isCarried (opcode b) ≡ false → Says b (outcomeOf q (Bad 2))
-  unknown b e = bad q 2 ∙ sym (no-row (opcode b) s shared w (regsOf q) at e)
+  pub unknown : (b : ℕ) → isCarried (opcode b) ≡ false → Says b (outcomeOf s q (Bad 2))
+  unknown b e = bad s q 2 ∙ sym (no-row (opcode b) s shared w (regsOf q) at e)
 
   pub short : (b : ℕ) {t g : ℕ} {does : List ℕ → Meaning} → opcode b ≡ carried [] t g does → {P : Outcome}
       → P ≡ outcome s shared w (regsOf q) (instr (does []) t g at) → Says b P
@@ -49,9 +49,9 @@ module _ {s shared w : List ℕ} {q : Regs} {f : Facts} (ready : Ready s f share
 
     -- the first operand: cut off, or fetched and the only one
     pub cut : {form : Form} {forms : List Form} → opcode key ≡ carried (form ∷ forms) t g does → {o : Operand} {p : ℕ} → fetchedOf o ≡ fetched form s at
-        → o ≡ Out p → Says b (outcomeOf q (Bad 1))
+        → o ≡ Out p → Says b (outcomeOf s q (Bad 1))
     cut {form} {forms} e {o} {p} i x =
-        says b (ap opcode k ∙ e) (bad q 1 ∙ sym (cut1 s shared w (regsOf q) t g does at form forms p (ran-out o form s at i p x)))
+        says b (ap opcode k ∙ e) (bad s q 1 ∙ sym (cut1 s shared w (regsOf q) t g does at form forms p (ran-out o form s at i p x)))
 
     pub one : {form : Form} → opcode key ≡ carried (form ∷ []) t g does → {o : Operand} {a n : ℕ} → fetchedOf o ≡ fetched form s at → o ≡ Got a n
         → lawful form a ≡ true → {P : Outcome} → P ≡ outcome s shared w (regsOf q) (instr (does (a ∷ [])) t g n) → Says b P
@@ -63,17 +63,39 @@ module _ {s shared w : List ℕ} {q : Regs} {f : Facts} (ready : Ready s f share
       depth : fetched DB s at ≡ got d m
       depth = came o DB s at (i ∙ sym (fetched-DB s at)) d m x
 
-      pub cut-second : {o' : Operand} {p : ℕ} → fetchedOf o' ≡ fetched form s m → o' ≡ Out p → Says b (outcomeOf q (Bad 1))
+      pub cut-second : {o' : Operand} {p : ℕ} → fetchedOf o' ≡ fetched form s m → o' ≡ Out p → Says b (outcomeOf s q (Bad 1))
       cut-second {o'} {p} i' x' =
-          says b (ap opcode k ∙ e) (bad q 1 ∙ sym (cut2 s shared w (regsOf q) t g does at DB form d m p depth (ran-out o' form s m i' p x')))
+          says b (ap opcode k ∙ e) (bad s q 1 ∙ sym (cut2 s shared w (regsOf q) t g does at DB form [] d m p depth (ran-out o' form s m i' p x')))
 
       module _ {o' : Operand} {a n : ℕ} (i' : fetchedOf o' ≡ fetched form s m) (x' : o' ≡ Got a n) where
-        pub deep : 127 < d → Says b (outcomeOf q (Bad 2))
-        deep h = says b (ap opcode k ∙ e) (bad q 2 ∙ sym (deep2 s shared w (regsOf q) t g does at form d m a n depth (came o' form s m i' a n x') h))
+        pub deep : 127 < d → Says b (outcomeOf s q (Bad 2))
+        deep h = says b (ap opcode k ∙ e) (bad s q 2 ∙ sym (deep2 s shared w (regsOf q) t g does at form d m a n depth (came o' form s m i' a n x') h))
 
         pub both : d ≤ 127 → lawful form a ≡ true → {P : Outcome} → P ≡ outcome s shared w (regsOf q) (instr (does (d ∷ a ∷ [])) t g n) → Says b P
         both h l p =
             says b (ap opcode k ∙ e) (p ∙ sym (got2 s shared w (regsOf q) t g does at form d m a n depth (came o' form s m i' a n x') h l))
+
+    -- three operands
+    module _ {form form' form'' : Form} (e : opcode key ≡ carried (form ∷ form' ∷ form'' ∷ []) t g does) {o : Operand} {a n : ℕ} (i : fetchedOf o ≡ fetched form s at)
+        (x : o ≡ Got a n) where
+      pub cut-middle : {o' : Operand} {p : ℕ} → fetchedOf o' ≡ fetched form' s n → o' ≡ Out p → Says b (outcomeOf s q (Bad 1))
+      cut-middle {o'} {p} i' x' =
+          says b (ap opcode k ∙ e)
+          (bad s q 1 ∙ sym (cut2 s shared w (regsOf q) t g does at form form' (form'' ∷ []) a n p (came o form s at i a n x) (ran-out o' form' s n i' p x')))
+
+      module _ {o' : Operand} {a' n' : ℕ} (i' : fetchedOf o' ≡ fetched form' s n) (x' : o' ≡ Got a' n') {o'' : Operand} (i'' : fetchedOf o'' ≡ fetched form'' s n') where
+        pub cut-third : {p : ℕ} → o'' ≡ Out p → Says b (outcomeOf s q (Bad 1))
+        cut-third {p} x'' =
+            says b (ap opcode k ∙ e)
+            (bad s q 1 ∙ sym (cut3 s shared w (regsOf q) t g does at form form' form'' a n a' n' (came o form s at i a n x) (came o' form' s n i' a' n' x') p
+            (ran-out o'' form'' s n' i'' p x'')))
+
+        pub all-three : {a'' n'' : ℕ} → o'' ≡ Got a'' n'' → lawful form a ≡ true → lawful form' a' ≡ true → lawful form'' a'' ≡ true → {P : Outcome}
+            → P ≡ outcome s shared w (regsOf q) (instr (does (a ∷ a' ∷ a'' ∷ [])) t g n'') → Says b P
+        all-three {a''} {n''} x'' l l' l'' p =
+            says b (ap opcode k ∙ e)
+            (p ∙ sym (got3 s shared w (regsOf q) t g does at form form' form'' a n a' n' (came o form s at i a n x) (came o' form' s n i' a' n' x') a'' n''
+            (came o'' form'' s n' i'' a'' n'' x'') l l' l''))
 
 -- ---- what the helpers ask
 
@@ -85,6 +107,15 @@ module _ {s shared w : List ℕ} {q : Regs} {f : Facts} (ready : Ready s f share
   -- the byte after an operand
   pub near : (form : Form) (from : ℕ) {o : Operand} {a n : ℕ} → fetchedOf o ≡ fetched form s from → o ≡ Got a n → n ≤ 65535
   near form from {o} {a} {n} e p = omega (arith, came-high o form s from e a n p, ready .loaded .short)
+
+  -- the numbers of the pool, and 6+G
+  pub pool-fits : (f .pool ≤ 32767) × ((f .reals ≤ 32767) × (f .floor ≤ 65535))
+  pool-fits =
+      let l = ready .loaded in
+      let t = ready .told in (
+        omega (arith, t .pools, l .pool-high, l .even, l .short),
+        (omega (arith, t .reals, l .reals-high, l .even, l .short), omega (arith, t .floors, ready .ranged .low, ready .small)),
+      )
 
 -- the operand that a short form holds
 pub slim : (b k : ℕ) {n : ℕ} → b < n → n ≤ 256 → Fits w16 (b - k)

@@ -1,5 +1,5 @@
 // The judgement of a step: the one fault, or what changes. It only reads.
-// Above: `machine`, which writes what is planned; below: `plan_stack`, `plan_places` and `plan_calls`, what each
+// Above: `machine`, which writes what is planned; below: `plan_stack`, `plan_places`, `plan_calls` and `plan_pool`, what each
 // meaning comes to, and `operand`, by which each arm fetches its own.
 use operand::Operand;
 use plan::Binary;
@@ -10,6 +10,7 @@ use plan::Planned;
 use plan::Regs;
 use plan::Unary;
 use plan::push;
+use plan::word_of;
 use plan_calls::branch;
 use plan_calls::call;
 use plan_calls::enter;
@@ -22,6 +23,10 @@ use plan_places::load;
 use plan_places::pool_offset;
 use plan_places::store;
 use plan_places::store_at;
+use plan_pool::block;
+use plan_pool::case_at;
+use plan_pool::choose;
+use plan_pool::words_at;
 use plan_stack::check_range;
 use plan_stack::divide;
 use plan_stack::duplicate;
@@ -59,7 +64,7 @@ fn act(
     at: usize,
 ) -> Planned
     requires { ⌜ (Ready (now seg) facts (now shared) (now region) r) × (at ≤ length (now seg)) ⌝ }
-    ensures { λ p. ⌜ outcomeOf r p ≡ judgedBy (now (seg .entry)) (now (shared .entry)) (now (region .entry)) (regsOf r) (rowDecoded (opcode op) (now (seg .entry)) at) ⌝ }
+    ensures { λ p. ⌜ outcomeOf (now (seg .entry)) r p ≡ judgedBy (now (seg .entry)) (now (shared .entry)) (now (region .entry)) (regsOf r) (rowDecoded (opcode op) (now (seg .entry)) at) ⌝ }
 {
     match op {
         // SLDC
@@ -380,6 +385,42 @@ fn act(
             }
             branch(region, seg.len(), r, 1, next, a)
         }
+        // LDC
+        131 => {
+            let Operand::Got {
+                value: mode,
+                next: mid,
+            } = operand::unsigned(seg, at)
+            else {
+                return Planned::Bad(1);
+            };
+            let Operand::Got {
+                value: b,
+                next: late,
+            } = operand::big(seg, mid)
+            else {
+                return Planned::Bad(1);
+            };
+            let Operand::Got { value: n, next } = operand::unsigned(seg, late) else {
+                return Planned::Bad(1);
+            };
+            block(facts.sex, mode, r, n, next, words_at(facts, r.sp, b, n))
+        }
+        // XJP
+        214 => {
+            let Operand::Got { value: b, next } = operand::big(seg, at) else {
+                return Planned::Bad(1);
+            };
+            if region.len() < r.sp + 1 {
+                return Planned::Bad(3);
+            }
+            choose(
+                seg.len(),
+                r,
+                next,
+                case_at(seg, facts, word_of(region, r.sp), b),
+            )
+        }
         _ => Planned::Bad(2),
     }
 }
@@ -399,7 +440,7 @@ fn decode(seg: &[u8], at: usize) -> Byte
 // the last arm of `act`, which fetches nothing.
 pub fn judge(seg: &[u8], facts: Facts, region: &[u16], shared: &[u16], r: Regs) -> Planned
     requires { ⌜ Ready (now seg) facts (now shared) (now region) r ⌝ }
-    ensures { λ p. ⌜ outcomeOf r p ≡ Step·judge (now (seg .entry)) (now (shared .entry)) (now (region .entry)) (regsOf r) ⌝ }
+    ensures { λ p. ⌜ outcomeOf (now (seg .entry)) r p ≡ Step·judge (now (seg .entry)) (now (shared .entry)) (now (region .entry)) (regsOf r) ⌝ }
 {
     let Byte::Decoded(op) = decode(seg, r.counter) else {
         return Planned::Bad(1);

@@ -1,5 +1,6 @@
 // One line of a listing: the instruction at a byte.
 // Above it: whole listings, and what is told of a fault. Below it: `instruction` and the columns.
+use crate::cases;
 use crate::columns;
 use crate::operands;
 use crate::table;
@@ -19,6 +20,15 @@ pub fn line(seg: &[u8], at: usize) -> usize
     let next = row(seg, at);
     pond_say::end();
     spans::forward(seg.len(), at, next)
+}
+
+// The same, and behind the line of a case jump a line for each of its targets.
+pub fn line_with_arms(seg: &[u8], at: usize) -> usize
+    ensures { λ r. ⌜ (at < length (now (seg .entry)) → at < r) ⌝ }
+{
+    let next = line(seg, at);
+    cases::arms(seg, at);
+    next
 }
 
 // The line without its end, and the byte where the next line begins.
@@ -53,7 +63,7 @@ fn named(seg: &[u8], i: Instruction) {
     } else if over(i.first, i.x) {
         pond_say::text(b"not carried: more than 127 links");
     } else {
-        table::meaning(i.first, seg, i.x, i.y, i.next);
+        table::meaning(i, seg);
     }
 }
 

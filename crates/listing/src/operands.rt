@@ -7,6 +7,7 @@ pub struct Operands {
     pub named: bool,
     pub x: u16,
     pub y: u16,
+    pub z: u16,
     pub next: usize,
 }
 

@@ -1,5 +1,7 @@
 // How an entry of the table is shown: its first word, which is the mnemonic, or the phrase behind it.
 // Above it: the table. Below it: rows cut into entries, words of an entry, and the operands.
+use crate::cases;
+use crate::constants;
 use crate::operands;
 use crate::operands::Operands;
 use text::piece;
@@ -34,6 +36,7 @@ pub fn short(row: &[u8], k: u8, n: u8, seg: &[u8], named: bool) -> usize {
             named,
             x: n as u16,
             y: 0,
+            z: 0,
             next: 0,
         },
     );
@@ -66,7 +69,8 @@ fn phrase(all: &[u8], seg: &[u8], o: Operands) {
 }
 
 // A word of a phrase. Some begin with a mark for an operand: # is the first and % the second, ~ the first as a signed number, & the first as
-// links, $ as words, ^ as a jump, @ as a routine; ! is the second as a routine; * is the word of the pool.
+// links, $ as words, ^ as a jump, @ as a routine; ! is the second as a routine, ? the third as words; * is the word of the pool, + the words of
+// the pool that are pushed, and : the case table.
 fn shown(w: &[u8], seg: &[u8], o: Operands) {
     if w.len() == 0 {
         return;
@@ -99,6 +103,15 @@ fn shown(w: &[u8], seg: &[u8], o: Operands) {
         }
         b'*' => {
             operands::pooled(seg, o.x);
+        }
+        b'?' => {
+            operands::words(o.z);
+        }
+        b'+' => {
+            constants::pushed(seg, o.x, o.y, o.z);
+        }
+        b':' => {
+            cases::range(seg, o.x);
         }
         _ => {
             pond_say::text(w);

@@ -1,5 +1,6 @@
 // The listing of a segment: each routine's heading and the instructions from its first byte on.
 // Above it: the console's listings. Below it: the lines, and where a routine's code ends.
+use crate::cases;
 use crate::lines;
 use segment::Routine;
 ghost use Prim.Native.Nat.{_<_};
@@ -69,7 +70,7 @@ fn unmet(code: bool) {
     }
 }
 
-// A line, with a mark where it stands at EXITIC.
+// A line, with a mark where it stands at EXITIC, and the targets of a case jump behind it.
 fn marked(seg: &[u8], at: usize, end: usize, exitic: usize) -> usize
     ensures { λ r. ⌜ (at < end → at < r) ⌝ }
 {
@@ -78,5 +79,6 @@ fn marked(seg: &[u8], at: usize, end: usize, exitic: usize) -> usize
         pond_say::text(b"  <- EXITIC");
     }
     pond_say::end();
+    cases::arms(seg, at);
     spans::forward(end, at, next)
 }

@@ -23,10 +23,10 @@ const SHORT: [u8; 231] = *b"SLDC push #;\
     SIND word # past the address on the stack";
 
 // 128 to 255, in the order of the numbers.
-const LONG: [u8; 1966] = *b"LDCB push #;\
+const LONG: [u8; 2041] = *b"LDCB push #;\
     LDCI push ~;\
     LCO push the place of word # of the pool *;\
-    LDC;\
+    LDC push ? from word % of the pool +;\
     LLA push the address of local #;\
     LDO push global #;\
     LAO push the address of global #;\
@@ -109,7 +109,7 @@ const LONG: [u8; 1966] = *b"LDCB push #;\
     NFJ;\
     FJP jump to byte ^ if false;\
     FJPL jump to byte ^ if false;\
-    XJP;\
+    XJP jump by the table at word # of the pool :;\
     IXA;\
     IXP;\
     STE;\

@@ -2,6 +2,7 @@
 // Above it: the lines of a listing. Below it: the rows, and how an entry is shown.
 use crate::operands::Operands;
 use crate::rows;
+use instruction::Instruction;
 
 // Prints the mnemonic, with the number of a short form, or a dash where appendix B has none, and answers how many characters that were.
 pub fn name(first: u8) -> usize {
@@ -12,21 +13,23 @@ pub fn name(first: u8) -> usize {
             named: true,
             x: 0,
             y: 0,
+            z: 0,
             next: 0,
         },
     )
 }
 
 // What a carried instruction does.
-pub fn meaning(first: u8, seg: &[u8], x: u16, y: u16, next: usize) {
+pub fn meaning(i: Instruction, seg: &[u8]) {
     entry(
-        first,
+        i.first,
         seg,
         Operands {
             named: false,
-            x,
-            y,
-            next,
+            x: i.x,
+            y: i.y,
+            z: i.z,
+            next: i.next,
         },
     );
 }

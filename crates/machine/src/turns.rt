@@ -18,7 +18,7 @@ ghost use Rattle.plan.specs.Told.{Told, sexOf};
 ghost use Rattle.steps.specs.Memory.{Placed, Steady};
 ghost use Rattle.machine.specs.Memory.{kindOf, TurnedTo};
 
-// What a segment says: sex, dictionary, number of routines, pool and 6+G.
+// What a segment says: sex, dictionary, number of routines, pool, real pool and 6+G.
 pub fn facts_of(seg: &[u8]) -> Facts
     ensures { λ f. ⌜ Told (now (seg .entry)) f ⌝ }
 {
@@ -28,6 +28,7 @@ pub fn facts_of(seg: &[u8]) -> Facts
         dict: head.dict as usize,
         count: head.count as usize,
         pool: head.pool as usize,
+        reals: head.reals,
         floor: segment::floor(seg) as usize,
     }
 }

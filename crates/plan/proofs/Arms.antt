@@ -10,8 +10,8 @@ use lib.ListN.{length, getD}
 use borrow.Author.Tests.{le-leb, lt-leb, ne-eqb, ltb-true, ltb-false}
 use Rattle.segment.specs.Head.{words}
 use Rattle.pmachine.specs.State.{Registers}
-use Rattle.pmachine.specs.Meaning.{Whose, globals, up, Meaning, constant, pool-offset, load, address, store, index, indirect, unary, binary, division}
-use Rattle.pmachine.specs.Meaning.{duplicate, swap, nothing, subrange, jump, jump-if, call, return}
+use Rattle.pmachine.specs.Meaning.{Whose, globals, up, Meaning, constant, pool-offset, constants, load, address, store, index, indirect, unary, binary, division}
+use Rattle.pmachine.specs.Meaning.{duplicate, swap, nothing, subrange, jump, jump-if, case-jump, call, return}
 use Rattle.pmachine.specs.Opcode.{Row, carried, isCarried, opcode, rowIn, appendixB}
 use Rattle.pmachine.specs.Decoding.{rowDecoded}
 use Rattle.pmachine.specs.Step.{Outcome, fault, goes, floor, moved, reached, reaches, broken, outcome, judgedBy}
@@ -21,13 +21,17 @@ use Rattle.plan.specs.declared.Regs.{Regs}
 use Rattle.plan.specs.declared.Facts.{Facts}
 use Rattle.plan.specs.declared.Planned.the-variants.{Move, Bad}
 use Rattle.plan.specs.declared.Entry.{Entry}
+use Rattle.plan.specs.declared.Found.{Found}
+use Rattle.plan.specs.declared.Case.{Case}
 use Rattle.plan.specs.Answer.{regsOf, outcomeOf}
 use Rattle.plan.specs.Mirror.{lack, pushed, swapped, one, two, gives, divided, checked, loaded, addressed, stored, readAt, storedAt, pooled}
+use Rattle.plan.specs.Mirror.{wordsAt, sexBy, blocked, caseAt, chosen}
 use Rattle.plan.specs.Mirror.{jumped, branched, entered, called, returned}
 use Rattle.plan.specs.Told.{Ready}
 use Rattle.plan.proofs.Meanings.{instr, few-words, is-constant, is-duplicate, is-nothing, is-swap, is-unary, is-binary, is-division, is-load}
 use Rattle.plan.proofs.Meanings.{is-address, is-store, no-load, no-address, no-store, no-call, is-pool, is-indirect, is-subrange, is-jump}
 use Rattle.plan.proofs.Meanings.{is-branch, is-index, is-call, is-return}
+use Rattle.plan.proofs.Pools.{is-constants, is-case}
 
 -- ---- rows
 
@@ -100,7 +104,7 @@ member b (k ∷ ks) = cond (eqb b k) true (member b ks)
 
 unfoldable pub keys : List ℕ
 keys =
-    241 ∷ 240 ∷ 239 ∷ 238 ∷ 237 ∷ 230 ∷ 229 ∷ 226 ∷ 225 ∷ 224 ∷ 213 ∷ 212 ∷ 203 ∷ 196 ∷ 189 ∷ 181 ∷ 180 ∷ 179 ∷ 178 ∷ 177 ∷ 176 ∷ 174 ∷ 173 ∷ 166 ∷ 165
+    214 ∷ 131 ∷ 241 ∷ 240 ∷ 239 ∷ 238 ∷ 237 ∷ 230 ∷ 229 ∷ 226 ∷ 225 ∷ 224 ∷ 213 ∷ 212 ∷ 203 ∷ 196 ∷ 189 ∷ 181 ∷ 180 ∷ 179 ∷ 178 ∷ 177 ∷ 176 ∷ 174 ∷ 173 ∷ 166 ∷ 165
     ∷ 164 ∷ 163 ∷ 162 ∷ 161 ∷ 160 ∷ 156 ∷ 152 ∷ 150 ∷ 146 ∷ 145 ∷ 144 ∷ 143 ∷ 141 ∷ 140 ∷ 139 ∷ 138 ∷ 137 ∷ 136 ∷ 135 ∷ 134 ∷ 133 ∷ 132 ∷ 130 ∷ 129 ∷ 128
     ∷ []
 
@@ -139,13 +143,13 @@ module _ (s shared w : List ℕ) (r : Registers) (at : ℕ) (P : Outcome) where
 
 -- ---- what the answers say that are no call's
 
-pub bad : (q : Regs) (n : ℕ) → outcomeOf q (Bad n) ≡ fault n
+pub bad : (s : List ℕ) (q : Regs) (n : ℕ) → outcomeOf s q (Bad n) ≡ fault n
 unfolding outcomeOf
-bad q n = refl
+bad s q n = refl
 
-pub moves : (q : Regs) (sp n : ℕ) → outcomeOf q (Move sp n) ≡ goes (moved (regsOf q) sp n) sp []
+pub moves : (s : List ℕ) (q : Regs) (sp n : ℕ) → outcomeOf s q (Move sp n) ≡ goes (moved (regsOf q) sp n) sp []
 unfolding outcomeOf
-moves q sp n = refl
+moves s q sp n = refl
 
 -- ---- the arms
 
@@ -184,6 +188,14 @@ module _ {s shared w : List ℕ} {q : Regs} {f : Facts} (ready : Ready s f share
 
     pub pol : (b : ℕ) → P ≡ pooled (words s) (f .pool) (f .floor) r n b → Is (pool-offset b) 0 1 P
     pol b e = e ∙ (rw (floors, ready .told .pools) (sym (is-pool s shared w r h small n b)))
+
+    pub blk : (mode b k : ℕ) {e : Found} → P ≡ blocked s (sexBy (f .sex) mode) r k n e → e ≡ wordsAt (f .pool) (f .reals) (f .floor) (r .sp) b k
+        → Is (constants mode b k) 0 0 P
+    blk mode b k a e =
+        a ∙ (rw (e, floors, ready .told .pools, ready .told .reals, ready .told .sexes) (sym (is-constants s shared w r h n mode b k)))
+
+    pub cas : (b : ℕ) → r .sp + 1 ≤ length w → {e : Case} → P ≡ chosen (length s) r n e → e ≡ caseAt s (getD w (r .sp) 0) b → Is (case-jump b) 1 0 P
+    cas b k a e = a ∙ (rw e (sym (is-case s shared w r h n b k)))
 
     pub bin : (op : ℕ → ℕ → ℕ) → P ≡ lack 2 w r (two r n (op (getD w (r .sp + 1) 0) (getD w (r .sp) 0))) → Is (binary op) 2 1 P
     bin op = taken (binary op) 2 1 (is-binary s shared w r h small n op)

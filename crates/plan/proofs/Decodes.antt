@@ -1,4 +1,4 @@
--- From the operands that are fetched to the instruction that is judged, for the rows of no, one and two operands; and what a link that
+-- From the operands that are fetched to the instruction that is judged, for the rows of no, one, two and three operands; and what a link that
 -- was followed tells. Above: the flat match of `judge`; below: Decoding and Step of `pmachine`, and the operands' laws of `operand`.
 use Prim.Native.Nat.{ℕ, zero, suc, _+_, _<_, _≤_}
 use mathlib.Core.Path.{_≡_, refl, sym, _∙_, ap, subst}
@@ -62,10 +62,21 @@ module _ (s shared w : List ℕ) (r : Registers) (t g : ℕ) (does : List ℕ �
   unfolding judgedBy rowDecoded operands andThen joined decodedWith allLawful
   got1 f a n e l = rw (e, l)
 
-  pub cut2 : (f f' : Form) (a n p : ℕ) → fetched f s at ≡ got a n → fetched f' s n ≡ out p
-      → judgedBy s shared w r (rowDecoded (carried (f ∷ f' ∷ []) t g does) s at) ≡ fault 1
+  pub cut2 : (f f' : Form) (fs : List Form) (a n p : ℕ) → fetched f s at ≡ got a n → fetched f' s n ≡ out p
+      → judgedBy s shared w r (rowDecoded (carried (f ∷ f' ∷ fs) t g does) s at) ≡ fault 1
   unfolding judgedBy rowDecoded operands andThen joined decodedWith
-  cut2 f f' a n p e e' = rw (e, e')
+  cut2 f f' fs a n p e e' = rw (e, e')
+
+  -- three operands, the third cut off, and all of them
+  module _ (f f' f'' : Form) (a n a' n' : ℕ) (e : fetched f s at ≡ got a n) (e' : fetched f' s n ≡ got a' n') where
+    pub cut3 : (p : ℕ) → fetched f'' s n' ≡ out p → judgedBy s shared w r (rowDecoded (carried (f ∷ f' ∷ f'' ∷ []) t g does) s at) ≡ fault 1
+    unfolding judgedBy rowDecoded operands andThen joined decodedWith
+    cut3 p e'' = rw (e, e', e'')
+
+    pub got3 : (a'' n'' : ℕ) → fetched f'' s n' ≡ got a'' n'' → lawful f a ≡ true → lawful f' a' ≡ true → lawful f'' a'' ≡ true
+        → judgedBy s shared w r (rowDecoded (carried (f ∷ f' ∷ f'' ∷ []) t g does) s at) ≡ outcome s shared w r (instr (does (a ∷ a' ∷ a'' ∷ [])) t g n'')
+    unfolding judgedBy rowDecoded operands andThen joined decodedWith allLawful
+    got3 a'' n'' e'' l l' l'' = rw (e, e', e'', l, l', l'')
 
   -- a DB above 127, judged when both are fetched
   pub deep2 : (f' : Form) (d m a n : ℕ) → fetched DB s at ≡ got d m → fetched f' s m ≡ got a n → 127 < d

@@ -94,7 +94,7 @@ module _ (s : List ℕ) (f : Facts) (t : Told s f) where
       go true e = eq-eqb (f .sex) 0 e
       go false e = ne-eqb (f .sex) 0 (λ z. omega (arith, e, z))
 
-  word-told : (w : ℕ) → wordBy (eqb (f .sex) 0) s w ≡ word s w
+  pub word-told : (w : ℕ) → wordBy (eqb (f .sex) 0) s w ≡ word s w
   unfolding word
   word-told w = ap (λ (b : Bool). wordBy b s w) sex-told
 

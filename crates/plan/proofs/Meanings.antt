@@ -54,6 +54,18 @@ landed len t = go _ refl _ refl
 landed-high : (len t : ℕ) → inside 22 len t ≡ true → eqb t 0 ≡ false
 landed-high len t e = ne-eqb t 0 (λ q. omega (arith, q, inside-true 22 len t e .0))
 
+-- a jump lands in the code, or is fault 7
+pub jumped-is : (len : ℕ) (r : Registers) (sp n d : ℕ)
+    → jumped len r sp n d ≡ cond (inside 22 len (target n d)) (goes (moved r sp (target n d)) sp []) (fault 7)
+unfolding jumped
+jumped-is len r sp n d = rw (landed len (target n d)) (go (inside 22 len (target n d)) refl)
+  where
+    go : (b : Bool) → inside 22 len (target n d) ≡ b
+        → cond (eqb (cond (inside 22 len (target n d)) (target n d) 0) 0) (fault 7) (goes (moved r sp (cond (inside 22 len (target n d)) (target n d) 0)) sp [])
+        ≡ cond (inside 22 len (target n d)) (goes (moved r sp (target n d)) sp []) (fault 7)
+    go true e = rw (e, landed-high len (target n d) e)
+    go false e = rw e
+
 -- what is read at an address, if it may be read
 module _ (w shared : List ℕ) (base i : ℕ) (small : length w ≤ 32768) (few : length shared ≤ 32768) where
   read-is : readAt w shared base i ≡ cond (readable w shared base i) (Value (wordAt w shared (base + i))) Missing
@@ -272,23 +284,22 @@ module _ (s shared w : List ℕ) (r : Registers) (h : Ranged s (length w) r) (sm
       go false e y f = rw (le-ltb (length w) (r .sp + 3) k, plus0, e)
 
   pub is-jump : (d : ℕ) → outcome s shared w r (instr (jump d) 0 0 n) ≡ jumped (length s) r (r .sp) n d
-  unfolding outcome asks effect groundFor firstFault jumped
+  unfolding outcome asks effect groundFor firstFault
   is-jump d = go _ refl
     where
       go : (b : Bool) → inside 22 (length s) (target n d) ≡ b → outcome s shared w r (instr (jump d) 0 0 n) ≡ jumped (length s) r (r .sp) n d
-      go true e = rw (fits, landed (length s) (target n d), e, none-none, dry, landed-high (length s) (target n d) e)
-      go false e = rw (fits, landed (length s) (target n d), e)
+      go true e = rw (fits, jumped-is (length s) r (r .sp) n d, e, none-none, dry)
+      go false e = rw (fits, jumped-is (length s) r (r .sp) n d, e)
 
   pub is-branch : (want d : ℕ) → r .sp + 1 ≤ length w → outcome s shared w r (instr (jump-if want d) 1 0 n) ≡ branched w (length s) r want n d
-  unfolding outcome asks effect groundFor firstFault branched jumped
+  unfolding outcome asks effect groundFor firstFault branched
   is-branch want d k = go _ refl _ refl
     where
       go : (x : Bool) → eqb (getD w (r .sp) 0 % 2) want ≡ x → (b : Bool) → inside 22 (length s) (target n d) ≡ b
           → outcome s shared w r (instr (jump-if want d) 1 0 n) ≡ branched w (length s) r want n d
       go false q b e = rw (le-ltb (length w) (r .sp + 1) k, plus0, q, one-none, dry1)
-      go true q false e = rw (le-ltb (length w) (r .sp + 1) k, plus0, q, landed (length s) (target n d), e)
-      go true q true e =
-          rw (le-ltb (length w) (r .sp + 1) k, plus0, q, landed (length s) (target n d), e, one-none, dry1, landed-high (length s) (target n d) e)
+      go true q false e = rw (le-ltb (length w) (r .sp + 1) k, plus0, q, jumped-is (length s) r (r .sp + 1) n d, e)
+      go true q true e = rw (le-ltb (length w) (r .sp + 1) k, plus0, q, jumped-is (length s) r (r .sp + 1) n d, e, one-none, dry1)
 
   pub is-index : (i : ℕ) → length shared ≤ 32768 → r .sp + 1 ≤ length w
       → outcome s shared w r (instr (index i) 1 1 n) ≡ gives r n (readAt w shared (getD w (r .sp) 0) i)

@@ -8,8 +8,9 @@ use lib.ListN.{length, getD}
 use lib.Dec.{ltb, leb, eqb}
 use Rattle.basis.specs.Bools.{inside}
 use Rattle.basis.specs.Integer.{addOf, subOf, mulOf, negOf, incOf, decOf, magOf, quotOf, remOf, eqOf, neOf, leqOf, geqOf, leuOf, geuOf, andOf, orOf, notOf}
-use Rattle.segment.specs.Head.{count, linked, datasize, start}
+use Rattle.segment.specs.Head.{word, pool, realPool, count, linked, datasize, start}
 use Rattle.pmachine.specs.State.{Registers}
+use Rattle.pmachine.specs.Pool.{wordsFrom, onTop}
 use Rattle.pmachine.specs.Step.{Outcome, fault, finish, goes, moved, floor, newRecord, target, markAt}
 use Rattle.plan.specs.declared.Unary.{Unary}
 use Rattle.plan.specs.declared.Unary.the-variants.{Abi, Ngi, Lnot, Inci, Deci}
@@ -21,6 +22,10 @@ use Rattle.plan.specs.declared.Read.{Read}
 use Rattle.plan.specs.declared.Read.the-variants.{Value, Missing}
 use Rattle.plan.specs.declared.Entry.{Entry}
 use Rattle.plan.specs.declared.Entry.the-variants.{To, Not}
+use Rattle.plan.specs.declared.Found.{Found}
+use Rattle.plan.specs.declared.Found.the-variants.{At, Fault}
+use Rattle.plan.specs.declared.Case.{Case}
+use Rattle.plan.specs.declared.Case.the-variants.{By, On, Unread}
 
 -- ---- words on the stack
 
@@ -108,6 +113,21 @@ unfoldable pub pooled : ℕ → ℕ → ℕ → Registers → ℕ → ℕ → Ou
 pooled words pool low r next a =
     cond (eqb pool 0) (fault 6) (cond (leb words (pool + a)) (fault 6) (pushed low r next (pool + a)))
 
+-- ---- words of the pool
+
+unfoldable pub wordsAt : ℕ → ℕ → ℕ → ℕ → ℕ → ℕ → Found
+wordsAt pool reals low sp b n =
+    cond (eqb n 0) (cond (eqb pool 0) (Fault 6) (At 0))
+    (cond (ltb reals (pool + b + n)) (Fault 6)
+    (cond (ltb sp (low + n)) (Fault 4) (At (pool + b))))
+
+unfoldable pub sexBy : ℕ → ℕ → ℕ
+sexBy sex mode = cond (eqb mode 2) sex 0
+
+unfoldable pub blocked : List ℕ → ℕ → Registers → ℕ → ℕ → Found → Outcome
+blocked s sex r n next (At first) = goes (moved r (r .sp - n) next) (r .sp - n) (onTop (wordsFrom (eqb sex 0) s first n))
+blocked s sex r n next (Fault k) = fault k
+
 -- ---- jumps, calls and returns
 
 -- a target that lies in the code, or 0
@@ -121,6 +141,20 @@ jumped len r sp next a =
 unfoldable pub branched : List ℕ → ℕ → Registers → ℕ → ℕ → ℕ → Outcome
 branched w len r want next a =
     cond (eqb (getD w (r .sp) 0 % 2) want) (jumped len r (r .sp + 1) next a) (goes (moved r (r .sp + 1) next) (r .sp + 1) [])
+
+unfoldable pub caseAt : List ℕ → ℕ → ℕ → Case
+caseAt s i b =
+    cond (ltb (realPool s) (pool s + b + 2)) Unread
+    (cond (eqb (leqOf (word s (pool s + b)) i) 1)
+    (cond (eqb (leqOf i (word s (pool s + b + 1))) 1)
+    (cond (leb (realPool s) (pool s + b + 2 + subOf i (word s (pool s + b)))) Unread (By (word s (pool s + b + 2 + subOf i (word s (pool s + b))))))
+    On)
+    On)
+
+unfoldable pub chosen : ℕ → Registers → ℕ → Case → Outcome
+chosen len r next (By d) = jumped len r (r .sp + 1) next d
+chosen len r next On = goes (moved r (r .sp + 1) next) (r .sp + 1) []
+chosen len r next Unread = fault 6
 
 unfoldable pub entryFault : ℕ → ℕ → ℕ → ℕ
 entryFault e sp needed = cond (eqb e 0) 8 (cond (ltb sp needed) 4 0)

@@ -5,7 +5,7 @@ use mathlib.Core.Bool.{Bool, true, false}
 use mathlib.Core.List.{List}
 use Prim.Native.Nat.{ℕ, _≤_}
 use lib.ListN.{length}
-use Rattle.segment.specs.Head.{least, dict, count, pool}
+use Rattle.segment.specs.Head.{least, dict, count, pool, realPool}
 use Rattle.pmachine.specs.Step.{floor}
 use Rattle.pmachine.specs.Sound.{Loaded, Ranged}
 use Rattle.plan.specs.declared.Facts.{Facts}
@@ -22,6 +22,7 @@ pub record Told (s : List ℕ) (f : Facts) : Type 0 where
   pub dicts : f .dict ≡ dict s
   pub counts : f .count ≡ count s
   pub pools : f .pool ≡ pool s
+  pub reals : f .reals ≡ realPool s
   pub floors : f .floor ≡ floor s
 
 -- a loaded segment and what it says, and a session's shared words, words and registers

@@ -1,7 +1,8 @@
 // What a step is judged with: registers, what a segment says, and what changes; and the two functions on them that every part asks.
 // Above: `plan_stack`, `plan_places` and `plan_calls`, what each meaning comes to, and all that names registers; below: the definition of a step.
 ghost use mathlib.Core.Path.{_≡_};
-ghost use Prim.Native.Nat.{_-_, _≤_, _<_};
+ghost use mathlib.Core.List.{List};
+ghost use Prim.Native.Nat.{ℕ, _-_, _≤_, _<_};
 ghost use lib.ListN.{length, getD};
 ghost use Rattle.plan.specs.Answer.{regsOf, outcomeOf};
 ghost use Rattle.plan.specs.Mirror.{pushed};
@@ -14,12 +15,14 @@ pub struct Regs {
     pub routine: usize,
 }
 
-// What a segment says, read once a turn. Sex 0 is least byte first, 1 most byte first; floor is 6+G.
+// What a segment says, read once a turn. Sex 0 is least byte first, 1 most byte first; `reals` is where the real pool starts, the end of what can be
+// read of the pool; floor is 6+G.
 pub struct Facts {
     pub sex: usize,
     pub dict: usize,
     pub count: usize,
     pub pool: usize,
+    pub reals: usize,
     pub floor: usize,
 }
 
@@ -38,6 +41,8 @@ pub enum Planned {
     Call(u16, u16, usize, usize, usize),
     // stack pointer, record pointer, counter, routine
     Back(usize, usize, usize, usize),
+    // the segment's word that is pushed first, how many are pushed, counter, and the sex in which each word is read
+    Block(u16, usize, usize, usize),
     // a fault
     Bad(u8),
     Finish,
@@ -59,6 +64,19 @@ pub enum Read {
 pub enum Entry {
     To(usize, usize),
     Not(u8),
+}
+
+// The first word of those that LDC pushes, by its number in the segment; or the fault.
+pub enum Found {
+    At(u16),
+    Fault(u8),
+}
+
+// What a case table has for an index: a distance to jump by, nothing, so that the session goes on, or a word that cannot be read.
+pub enum Case {
+    By(u16),
+    On,
+    Unread,
 }
 
 // The instructions on one word, on two, and the divisions, by their names in appendix B.
@@ -100,7 +118,7 @@ pub fn word_of(words: &[u16], at: usize) -> u16
 // A word on the stack, if it has room.
 pub fn push(floor: usize, r: Regs, next: usize, v: u16) -> Planned
     requires { ⌜ 1 ≤ r .sp ⌝ }
-    ensures { λ p. ⌜ outcomeOf r p ≡ pushed floor (regsOf r) next v ⌝ }
+    ensures { λ p. ⌜ ((s : List ℕ) → outcomeOf s r p ≡ pushed floor (regsOf r) next v) ⌝ }
 {
     let sp = r.sp - 1;
     if sp < floor {

@@ -7,7 +7,8 @@ use plan::Planned;
 use plan::Regs;
 use plan::word_of;
 ghost use mathlib.Core.Path.{_≡_};
-ghost use Prim.Native.Nat.{_+_, _≤_, _<_};
+ghost use mathlib.Core.List.{List};
+ghost use Prim.Native.Nat.{ℕ, _+_, _≤_, _<_};
 ghost use lib.ListN.{length};
 ghost use Rattle.pmachine.specs.Step.{follow, markAt, target};
 ghost use Rattle.pmachine.specs.Sound.{Loaded};
@@ -44,7 +45,7 @@ fn landing(len: usize, next: usize, a: u16) -> usize
 
 pub fn jump(len: usize, r: Regs, sp: usize, next: usize, a: u16) -> Planned
     requires { ⌜ next ≤ 65535 ⌝ }
-    ensures { λ p. ⌜ outcomeOf r p ≡ jumped len (regsOf r) sp next a ⌝ }
+    ensures { λ p. ⌜ ((s : List ℕ) → outcomeOf s r p ≡ jumped len (regsOf r) sp next a) ⌝ }
 {
     let t = landing(len, next, a);
     if t == 0 {
@@ -58,7 +59,7 @@ pub fn jump(len: usize, r: Regs, sp: usize, next: usize, a: u16) -> Planned
 pub fn branch(region: &[u16], len: usize, r: Regs, want: u16, next: usize, a: u16) -> Planned
     requires { ⌜ next ≤ 65535 ⌝ }
     requires { ⌜ (r .sp < length (now region)) × (r .sp ≤ 32768) ⌝ }
-    ensures { λ p. ⌜ outcomeOf r p ≡ branched (now (region .entry)) len (regsOf r) want next a ⌝ }
+    ensures { λ p. ⌜ ((s : List ℕ) → outcomeOf s r p ≡ branched (now (region .entry)) len (regsOf r) want next a) ⌝ }
 {
     if word_of(region, r.sp) % 2 == want {
         jump(len, r, r.sp + 1, next, a)
@@ -151,7 +152,7 @@ pub fn enter(seg: &[u8], facts: Facts, sp: usize, k: u16) -> Entry
 
 pub fn call(r: Regs, k: u16, parent: usize, next: usize, e: Entry) -> Planned
     requires { ⌜ (parent ≤ 65535) × (next ≤ 65535) ⌝ }
-    ensures { λ p. ⌜ outcomeOf r p ≡ called (regsOf r) k parent next e ⌝ }
+    ensures { λ p. ⌜ ((s : List ℕ) → outcomeOf s r p ≡ called (regsOf r) k parent next e) ⌝ }
 {
     match e {
         Entry::To(sp, counter) => {
@@ -211,7 +212,7 @@ fn in_order(len: usize, size: usize, facts: Facts, mark: [u16; 5], sp: usize) ->
 
 pub fn give_back(len: usize, facts: Facts, region: &[u16], r: Regs, a: u16) -> Planned
     requires { ⌜ (r .m + 5 ≤ length (now region)) × (r .m ≤ 32768) ⌝ }
-    ensures { λ p. ⌜ outcomeOf r p ≡ returned len (facts .count) (facts .floor) (now (region .entry)) (regsOf r) a ⌝ }
+    ensures { λ p. ⌜ ((s : List ℕ) → outcomeOf s r p ≡ returned len (facts .count) (facts .floor) (now (region .entry)) (regsOf r) a) ⌝ }
 {
     if r.m == 1 {
         Planned::Finish

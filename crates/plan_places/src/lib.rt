@@ -6,7 +6,8 @@ use plan::Regs;
 use plan::push;
 use plan::word_of;
 ghost use mathlib.Core.Path.{_≡_};
-ghost use Prim.Native.Nat.{_≤_};
+ghost use mathlib.Core.List.{List};
+ghost use Prim.Native.Nat.{ℕ, _≤_};
 ghost use lib.ListN.{length, getD};
 ghost use Rattle.plan.specs.Answer.{regsOf, outcomeOf};
 ghost use Rattle.plan.specs.Mirror.{lack, loaded, addressed, stored, gives, readAt, storedAt, pooled};
@@ -14,7 +15,7 @@ ghost use Rattle.plan.specs.Mirror.{lack, loaded, addressed, stored, gives, rea
 // Offset a of the record at rec.
 pub fn load(region: &[u16], floor: usize, r: Regs, rec: usize, a: u16, next: usize) -> Planned
     requires { ⌜ (1 ≤ r .sp) × (rec ≤ 32768) ⌝ }
-    ensures { λ p. ⌜ outcomeOf r p ≡ loaded (now (region .entry)) floor (regsOf r) rec a next ⌝ }
+    ensures { λ p. ⌜ ((s : List ℕ) → outcomeOf s r p ≡ loaded (now (region .entry)) floor (regsOf r) rec a next) ⌝ }
 {
     let at = rec + 4 + a as usize;
     if region.len() <= at {
@@ -26,7 +27,7 @@ pub fn load(region: &[u16], floor: usize, r: Regs, rec: usize, a: u16, next: usi
 
 pub fn address(region: &[u16], floor: usize, r: Regs, rec: usize, a: u16, next: usize) -> Planned
     requires { ⌜ (1 ≤ r .sp) × ((rec ≤ 32768) × (length (now region) ≤ 32768)) ⌝ }
-    ensures { λ p. ⌜ outcomeOf r p ≡ addressed (now (region .entry)) floor (regsOf r) rec a next ⌝ }
+    ensures { λ p. ⌜ ((s : List ℕ) → outcomeOf s r p ≡ addressed (now (region .entry)) floor (regsOf r) rec a next) ⌝ }
 {
     let at = rec + 4 + a as usize;
     if region.len() <= at {
@@ -38,7 +39,7 @@ pub fn address(region: &[u16], floor: usize, r: Regs, rec: usize, a: u16, next: 
 
 pub fn store(region: &[u16], r: Regs, rec: usize, a: u16, next: usize) -> Planned
     requires { ⌜ (r .sp ≤ 32768) × ((rec ≤ 32768) × (length (now region) ≤ 32768)) ⌝ }
-    ensures { λ p. ⌜ outcomeOf r p ≡ lack 1 (now (region .entry)) (regsOf r) (stored (now (region .entry)) (regsOf r) rec a next) ⌝ }
+    ensures { λ p. ⌜ ((s : List ℕ) → outcomeOf s r p ≡ lack 1 (now (region .entry)) (regsOf r) (stored (now (region .entry)) (regsOf r) rec a next)) ⌝ }
 {
     if region.len() < r.sp + 1 {
         return Planned::Bad(3);
@@ -74,7 +75,7 @@ fn read_at(region: &[u16], shared: &[u16], base: u16, i: u16) -> Read
 
 // A word that was read, in the place of its address.
 fn give_read(r: Regs, next: usize, x: Read) -> Planned
-    ensures { λ p. ⌜ outcomeOf r p ≡ gives (regsOf r) next x ⌝ }
+    ensures { λ p. ⌜ ((s : List ℕ) → outcomeOf s r p ≡ gives (regsOf r) next x) ⌝ }
 {
     match x {
         Read::Value(v) => Planned::Top(v, r.sp, next),
@@ -85,7 +86,7 @@ fn give_read(r: Regs, next: usize, x: Read) -> Planned
 // An address becomes the word i words on from it.
 pub fn index(region: &[u16], shared: &[u16], r: Regs, i: u16, next: usize) -> Planned
     requires { ⌜ (r .sp ≤ 32768) × ((length (now region) ≤ 32768) × (length (now shared) ≤ 32768)) ⌝ }
-    ensures { λ p. ⌜ outcomeOf r p ≡ lack 1 (now (region .entry)) (regsOf r) (gives (regsOf r) next (readAt (now (region .entry)) (now (shared .entry)) (getD (now (region .entry)) (r .sp) 0) i)) ⌝ }
+    ensures { λ p. ⌜ ((s : List ℕ) → outcomeOf s r p ≡ lack 1 (now (region .entry)) (regsOf r) (gives (regsOf r) next (readAt (now (region .entry)) (now (shared .entry)) (getD (now (region .entry)) (r .sp) 0) i))) ⌝ }
 {
     if region.len() < r.sp + 1 {
         return Planned::Bad(3);
@@ -96,7 +97,7 @@ pub fn index(region: &[u16], shared: &[u16], r: Regs, i: u16, next: usize) -> Pl
 // The top word goes to the address below it.
 pub fn store_at(region: &[u16], r: Regs, next: usize) -> Planned
     requires { ⌜ (r .sp ≤ 32768) × (length (now region) ≤ 32768) ⌝ }
-    ensures { λ p. ⌜ outcomeOf r p ≡ lack 2 (now (region .entry)) (regsOf r) (storedAt (now (region .entry)) (regsOf r) next) ⌝ }
+    ensures { λ p. ⌜ ((s : List ℕ) → outcomeOf s r p ≡ lack 2 (now (region .entry)) (regsOf r) (storedAt (now (region .entry)) (regsOf r) next)) ⌝ }
 {
     if region.len() < r.sp + 2 {
         return Planned::Bad(3);
@@ -116,7 +117,7 @@ pub fn store_at(region: &[u16], r: Regs, next: usize) -> Planned
 // The word offset a of the constant pool, as a word number of the segment.
 pub fn pool_offset(words: usize, pool: usize, floor: usize, r: Regs, next: usize, a: u16) -> Planned
     requires { ⌜ (words ≤ 32767) × ((pool ≤ 65535) × (1 ≤ r .sp)) ⌝ }
-    ensures { λ p. ⌜ outcomeOf r p ≡ pooled words pool floor (regsOf r) next a ⌝ }
+    ensures { λ p. ⌜ ((s : List ℕ) → outcomeOf s r p ≡ pooled words pool floor (regsOf r) next a) ⌝ }
 {
     if pool == 0 {
         Planned::Bad(6)

@@ -8,14 +8,15 @@ use plan::Unary;
 use plan::push;
 use plan::word_of;
 ghost use mathlib.Core.Path.{_≡_};
-ghost use Prim.Native.Nat.{_+_, _≤_};
+ghost use mathlib.Core.List.{List};
+ghost use Prim.Native.Nat.{ℕ, _+_, _≤_};
 ghost use lib.ListN.{getD};
 ghost use Rattle.plan.specs.Answer.{regsOf, outcomeOf};
 ghost use Rattle.plan.specs.Mirror.{lack, pushed, swapped, one, oneOf, two, twoOf, divided, divisionOf, checked};
 
 pub fn duplicate(region: &[u16], floor: usize, r: Regs, next: usize) -> Planned
     requires { ⌜ (1 ≤ r .sp) × (r .sp ≤ 32768) ⌝ }
-    ensures { λ p. ⌜ outcomeOf r p ≡ lack 1 (now (region .entry)) (regsOf r) (pushed floor (regsOf r) next (getD (now (region .entry)) (r .sp) 0)) ⌝ }
+    ensures { λ p. ⌜ ((s : List ℕ) → outcomeOf s r p ≡ lack 1 (now (region .entry)) (regsOf r) (pushed floor (regsOf r) next (getD (now (region .entry)) (r .sp) 0))) ⌝ }
 {
     if region.len() < r.sp + 1 {
         return Planned::Bad(3);
@@ -25,7 +26,7 @@ pub fn duplicate(region: &[u16], floor: usize, r: Regs, next: usize) -> Planned
 
 pub fn swap(region: &[u16], r: Regs, next: usize) -> Planned
     requires { ⌜ r .sp ≤ 32768 ⌝ }
-    ensures { λ p. ⌜ outcomeOf r p ≡ lack 2 (now (region .entry)) (regsOf r) (swapped (now (region .entry)) (regsOf r) next) ⌝ }
+    ensures { λ p. ⌜ ((s : List ℕ) → outcomeOf s r p ≡ lack 2 (now (region .entry)) (regsOf r) (swapped (now (region .entry)) (regsOf r) next)) ⌝ }
 {
     if region.len() < r.sp + 2 {
         return Planned::Bad(3);
@@ -35,7 +36,7 @@ pub fn swap(region: &[u16], r: Regs, next: usize) -> Planned
 
 // A word in the place of the top one.
 fn give_one(r: Regs, next: usize, v: u16) -> Planned
-    ensures { λ p. ⌜ outcomeOf r p ≡ one (regsOf r) next v ⌝ }
+    ensures { λ p. ⌜ ((s : List ℕ) → outcomeOf s r p ≡ one (regsOf r) next v) ⌝ }
 {
     Planned::Top(v, r.sp, next)
 }
@@ -43,7 +44,7 @@ fn give_one(r: Regs, next: usize, v: u16) -> Planned
 // A word in the place of the two top ones.
 fn give_two(r: Regs, next: usize, v: u16) -> Planned
     requires { ⌜ r .sp ≤ 32768 ⌝ }
-    ensures { λ p. ⌜ outcomeOf r p ≡ two (regsOf r) next v ⌝ }
+    ensures { λ p. ⌜ ((s : List ℕ) → outcomeOf s r p ≡ two (regsOf r) next v) ⌝ }
 {
     Planned::Top(v, r.sp + 1, next)
 }
@@ -62,7 +63,7 @@ fn one_of(f: Unary, x: u16) -> u16
 
 pub fn one_word(region: &[u16], r: Regs, next: usize, f: Unary) -> Planned
     requires { ⌜ r .sp ≤ 32768 ⌝ }
-    ensures { λ p. ⌜ outcomeOf r p ≡ lack 1 (now (region .entry)) (regsOf r) (one (regsOf r) next (oneOf f (getD (now (region .entry)) (r .sp) 0))) ⌝ }
+    ensures { λ p. ⌜ ((s : List ℕ) → outcomeOf s r p ≡ lack 1 (now (region .entry)) (regsOf r) (one (regsOf r) next (oneOf f (getD (now (region .entry)) (r .sp) 0)))) ⌝ }
 {
     if region.len() < r.sp + 1 {
         return Planned::Bad(3);
@@ -90,7 +91,7 @@ fn two_of(f: Binary, x: u16, y: u16) -> u16
 
 pub fn two_words(region: &[u16], r: Regs, next: usize, f: Binary) -> Planned
     requires { ⌜ r .sp ≤ 32768 ⌝ }
-    ensures { λ p. ⌜ outcomeOf r p ≡ lack 2 (now (region .entry)) (regsOf r) (two (regsOf r) next (twoOf f (getD (now (region .entry)) (r .sp + 1) 0) (getD (now (region .entry)) (r .sp) 0))) ⌝ }
+    ensures { λ p. ⌜ ((s : List ℕ) → outcomeOf s r p ≡ lack 2 (now (region .entry)) (regsOf r) (two (regsOf r) next (twoOf f (getD (now (region .entry)) (r .sp + 1) 0) (getD (now (region .entry)) (r .sp) 0)))) ⌝ }
 {
     if region.len() < r.sp + 2 {
         return Planned::Bad(3);
@@ -104,7 +105,7 @@ pub fn two_words(region: &[u16], r: Regs, next: usize, f: Binary) -> Planned
 
 pub fn divide(region: &[u16], r: Regs, next: usize, f: Division) -> Planned
     requires { ⌜ r .sp ≤ 32768 ⌝ }
-    ensures { λ p. ⌜ outcomeOf r p ≡ lack 2 (now (region .entry)) (regsOf r) (divided (divisionOf f) (regsOf r) next (getD (now (region .entry)) (r .sp + 1) 0) (getD (now (region .entry)) (r .sp) 0)) ⌝ }
+    ensures { λ p. ⌜ ((s : List ℕ) → outcomeOf s r p ≡ lack 2 (now (region .entry)) (regsOf r) (divided (divisionOf f) (regsOf r) next (getD (now (region .entry)) (r .sp + 1) 0) (getD (now (region .entry)) (r .sp) 0))) ⌝ }
 {
     if region.len() < r.sp + 2 {
         return Planned::Bad(3);
@@ -123,7 +124,7 @@ pub fn divide(region: &[u16], r: Regs, next: usize, f: Division) -> Planned
 // TOS-1 <= TOS-2 <= TOS, leaving TOS-2.
 pub fn check_range(region: &[u16], r: Regs, next: usize) -> Planned
     requires { ⌜ r .sp ≤ 32768 ⌝ }
-    ensures { λ p. ⌜ outcomeOf r p ≡ lack 3 (now (region .entry)) (regsOf r) (checked (now (region .entry)) (regsOf r) next) ⌝ }
+    ensures { λ p. ⌜ ((s : List ℕ) → outcomeOf s r p ≡ lack 3 (now (region .entry)) (regsOf r) (checked (now (region .entry)) (regsOf r) next)) ⌝ }
 {
     if region.len() < r.sp + 3 {
         return Planned::Bad(3);

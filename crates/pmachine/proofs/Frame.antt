@@ -1,9 +1,10 @@
 -- What a step leaves as it is: the words outside those written; and, where it faults or finishes, words and registers.
 -- Above: the proofs of the code's step; below: Run, Runs.
 use Prim.Native.Nat.{ℕ, zero, suc, _+_, _<_, _≤_}
+use native.Mathlib.Nat.{add-zero}
 use native.Mathlib.Omega.{arith}
 use mathlib.Core.Path.{_≡_, refl, sym, ap, _∙_}
-use mathlib.Core.List.{List, [], _∷_}
+use mathlib.Core.List.{List, [], _∷_, _++_}
 use mathlib.Core.Bool.{true, false, false≢true}
 use lib.ListN.{length, getD, set, length-set}
 use lib.Seq.{getD-set-same, getD-set-other}
@@ -29,6 +30,14 @@ written-at (v ∷ vs) w at zero f h =
 written-at (v ∷ vs) w at (suc k) f h =
     let e : at + suc k ≡ at + 1 + k = omega arith in
     rw e (written-at vs (set w at v) (at + 1) k (omega (arith, length-set w at v)) (omega arith))
+
+-- one word more is the one above them
+pub written-snoc : (ws w : List ℕ) (at v : ℕ) → written w at (ws ++ (v ∷ [])) ≡ set (written w at ws) (at + length ws) v
+unfolding written
+written-snoc [] w at v = ap (λ (i : ℕ). set w i v) (sym (add-zero at))
+written-snoc (x ∷ xs) w at v =
+    let e : at + 1 + length xs ≡ at + suc (length xs) = omega arith in
+    written-snoc xs (set w at x) (at + 1) v ∙ ap (λ (i : ℕ). set (written (set w at x) (at + 1) xs) i v) e
 
 -- ---- one step
 

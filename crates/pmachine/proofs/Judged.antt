@@ -13,13 +13,15 @@ use Rattle.basis.specs.Bools.{inside}
 use Rattle.basis.proofs.Bools.{inside-true, both-true, cond-holds}
 use Rattle.segment.specs.Head.{count, linked, start}
 use Rattle.pmachine.specs.State.{Registers}
-use Rattle.pmachine.specs.Meaning.{Meaning, constant, pool-offset, load, address, store, index, indirect, unary}
-use Rattle.pmachine.specs.Meaning.{binary, division, duplicate, swap, nothing, subrange, jump, jump-if, call, return}
+use Rattle.pmachine.specs.Meaning.{Meaning, constant, pool-offset, constants, load, address, store, index, indirect, unary}
+use Rattle.pmachine.specs.Meaning.{binary, division, duplicate, swap, nothing, subrange, jump, jump-if, case-jump, call, return}
 use Rattle.pmachine.specs.Decoding.{Instruction, Decoded, instruction, faulty, decode, fetchesTo}
-use Rattle.pmachine.specs.Step.{Outcome, fault, finish, goes, floor, pointer, private, target, callable, newRecord, markAt, resumes}
+use Rattle.pmachine.specs.Pool.{constantsOf, onTop, inTable}
+use Rattle.pmachine.specs.Step.{Outcome, fault, finish, goes, floor, pointer, private, target, caseTarget, callable, newRecord, markAt, resumes}
 use Rattle.pmachine.specs.Step.{moved, Ground, _when_, groundFor, firstFault, order, below, asks, effect, outcome, judgedBy, judge}
 use Rattle.pmachine.specs.Sound.{Ranged, Loaded}
 use Rattle.pmachine.proofs.Rows.{pushes}
+use Rattle.pmachine.proofs.Pool.{length-constants}
 use Rattle.pmachine.proofs.Decoded.{Proper, ProperBy, decode-proper, CutAt, reaches}
 
 -- ---- the order of checks
@@ -111,6 +113,12 @@ module _ (s shared w : List ℕ) (r : Registers) (ld : Loaded s) (rg : Ranged s 
         let low = ltb-false sp (floor s) e in
         record { registers = stay sp n e (omega arith) a b; fits = omega arith; above = λ _. omega arith }
 
+    -- j words written on the stack, below those given
+    block : (n j : ℕ) (ws : List ℕ) → length ws ≡ j → 22 ≤ n → n ≤ length s → ltb (sp - j) (floor s) ≡ false → Goes s (length w) (moved r (sp - j) n) (sp - j) ws
+    block n j ws long a b e =
+        let low = ltb-false (sp - j) (floor s) e in
+        record { registers = stay (sp - j) n e (omega arith) a b; fits = omega (arith, long); above = λ _. omega arith }
+
     -- a word written at a private address
     at-place : (n at v : ℕ) → not (private w at) ≡ false → 22 ≤ n → n ≤ length s → ltb sp (floor s) ≡ false → Goes s (length w) (moved r sp n) at (v ∷ [])
     at-place n at v o a b e =
@@ -168,6 +176,7 @@ module _ (s shared w : List ℕ) (r : Registers) (ld : Loaded s) (rg : Ranged s 
     unfolding effect asks groundFor pushes
     effect-good x n (constant v) p a b c = on-stack n (v ∷ []) p a b (c .four)
     effect-good x n (pool-offset v) p a b c = on-stack n (_ ∷ []) p a b (c .four)
+    effect-good x n (constants mode v j) p a b c = block n j (onTop (constantsOf s mode v j)) (length-constants s mode v j) a b (c .four)
     effect-good x n (load u o) p a b c = on-stack n (_ ∷ []) p a b (c .four)
     effect-good x n (address u o) p a b c = on-stack n (_ ∷ []) p a b (c .four)
     effect-good x n (store u o) p a b c = at-place n _ _ (c .six) a b (c .four)
@@ -182,6 +191,7 @@ module _ (s shared w : List ℕ) (r : Registers) (ld : Loaded s) (rg : Ranged s 
     effect-good x n subrange p a b c = on-stack n [] p a b (c .four)
     effect-good x n (jump d) p a b c = jumped (target n d) (c .seven) (c .four)
     effect-good x n (jump-if want d) p a b c = branched n (target n d) (eqb (getD w (r .sp + 0) 0 % 2) want) (c .seven) a b (c .four)
+    effect-good x n (case-jump v) p a b c = branched n (caseTarget s v n (getD w (r .sp + 0) 0)) (inTable s v (getD w (r .sp + 0) 0)) (c .seven) a b (c .four)
     effect-good x n (call u j) p a b c = called j _ refl (c .eight) (c .four)
     effect-good x n (return v) p a b c = returned v (eqb (r .m) 1) (c .nine)
 

@@ -4,9 +4,11 @@ pub mod Ranges
 pub mod Rows
 pub mod Decoded
 pub mod Links
+pub mod Pool
 pub mod Judged
 pub mod Runs
 pub mod Keeps
 pub mod Frame
 pub mod Places
+pub mod Pushed
 pub mod Accepted

@@ -12,8 +12,8 @@ use borrow.Author.Tests.{ne-eqb}
 use Rattle.basis.proofs.Bools.{cond-holds}
 use Rattle.segment.specs.Head.{words}
 use Rattle.pmachine.specs.State.{Registers, Kind, ready, finished, faulted, State}
-use Rattle.pmachine.specs.Meaning.{Meaning, constant, pool-offset, load, address, store, index, indirect, unary}
-use Rattle.pmachine.specs.Meaning.{binary, division, duplicate, swap, nothing, subrange, jump, jump-if, call, return}
+use Rattle.pmachine.specs.Meaning.{Meaning, constant, pool-offset, constants, load, address, store, index, indirect, unary}
+use Rattle.pmachine.specs.Meaning.{binary, division, duplicate, swap, nothing, subrange, jump, jump-if, case-jump, call, return}
 use Rattle.pmachine.specs.Decoding.{Decoded, instruction, faulty, decode, fetchesTo}
 use Rattle.pmachine.specs.Step.{Outcome, fault, finish, goes, effect, outcome, judgedBy, judge}
 use Rattle.pmachine.specs.Run.{isReady, placeOf, settled, step, run}
@@ -57,6 +57,7 @@ module _ (s shared w : List ℕ) (r : Registers) where
   unfolding effect
   effect-fine sp next (constant v) = tt
   effect-fine sp next (pool-offset b) = tt
+  effect-fine sp next (constants mode b n) = tt
   effect-fine sp next (load p x) = tt
   effect-fine sp next (address p x) = tt
   effect-fine sp next (store p x) = tt
@@ -71,6 +72,7 @@ module _ (s shared w : List ℕ) (r : Registers) where
   effect-fine sp next subrange = tt
   effect-fine sp next (jump d) = tt
   effect-fine sp next (jump-if b d) = tt
+  effect-fine sp next (case-jump b) = tt
   effect-fine sp next (call p k) = tt
   effect-fine sp next (return b) = cond-holds Fine (eqb (r .m) 1) (λ _. tt) (λ _. tt)
 

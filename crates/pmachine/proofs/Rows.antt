@@ -10,8 +10,8 @@ use lib.Dec.{T, leb, leb→le}
 use borrow.Author.Tests.{leb-true, lt-leb}
 use Rattle.basis.specs.Bools.{every}
 use Rattle.basis.proofs.Bools.{every-holds, and-fst, and-snd}
-use Rattle.pmachine.specs.Meaning.{Meaning, constant, pool-offset, load, address, store, index, indirect, unary}
-use Rattle.pmachine.specs.Meaning.{binary, division, duplicate, swap, nothing, subrange, jump, jump-if, call, return}
+use Rattle.pmachine.specs.Meaning.{Meaning, constant, pool-offset, constants, load, address, store, index, indirect, unary}
+use Rattle.pmachine.specs.Meaning.{binary, division, duplicate, swap, nothing, subrange, jump, jump-if, case-jump, call, return}
 use Rattle.pmachine.specs.Opcode.{Row, carried, uncarried, opcode, rowIn, appendixB, consecutive, LinesConsecutive}
 
 -- by what a test says, and by what is decided
@@ -23,10 +23,11 @@ pub decided : {A P : Type 0} → Dec A → (A → P) → ((A → ⊥) → P) →
 decided (yes a) f g = f a
 decided (no n) f g = g n
 
--- the words that a meaning writes on the stack
+-- the words that a meaning writes on the stack; those of LDC are as many as its operand says, and are counted apart
 unfoldable pub pushes : Meaning → ℕ
 pushes (constant v) = 1
 pushes (pool-offset b) = 1
+pushes (constants mode b n) = 0
 pushes (load p x) = 1
 pushes (address p x) = 1
 pushes (store p x) = 0
@@ -41,6 +42,7 @@ pushes nothing = 0
 pushes subrange = 0
 pushes (jump d) = 0
 pushes (jump-if b d) = 0
+pushes (case-jump b) = 0
 pushes (call p k) = 0
 pushes (return b) = 0
 

@@ -3,8 +3,10 @@ pub mod State
 pub mod Meaning
 pub mod Opcode
 pub mod Decoding
+pub mod Pool
 pub mod Step
 pub mod Run
 pub mod Sound
 pub mod Kept
 pub mod Places
+pub mod Pushed

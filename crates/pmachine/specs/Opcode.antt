@@ -9,7 +9,7 @@ use lib.Dec.{leb, eqb}
 use lib.ListN.{getD}
 use Rattle.basis.specs.Integer.{addOf, subOf, mulOf, negOf, incOf, decOf, magOf, quotOf, remOf, eqOf, neOf, leqOf, geqOf, leuOf, geuOf, andOf, orOf, notOf}
 use Rattle.operand.specs.Operand.{Form, UB, SB, DB, B, W}
-use Rattle.pmachine.specs.Meaning.{Whose, globals, up, Meaning, constant, pool-offset, load, address, store, index, indirect, unary, binary, division, duplicate, swap, nothing, subrange, jump, jump-if, call, return}
+use Rattle.pmachine.specs.Meaning.{Whose, globals, up, Meaning, constant, pool-offset, constants, load, address, store, index, indirect, unary, binary, division, duplicate, swap, nothing, subrange, jump, jump-if, case-jump, call, return}
 
 -- "Every one of the 256 first bytes has its operand form, words taken and words given in one table (marked if not carried; calls and
 -- returns take and give 0)." The meaning is of the operands, in the order in which they stand. What is not carried has its operands alone, so
@@ -75,7 +75,7 @@ appendixB =
     ∷ row 128 (UB ∷ []) 0 1 (λ v. constant (one v))  -- LDCB
     ∷ row 129 (W ∷ []) 0 1 (λ v. constant (one v))  -- LDCI
     ∷ row 130 (B ∷ []) 0 1 (λ v. pool-offset (one v))  -- LCO
-    ∷ other 131 131 (UB ∷ B ∷ UB ∷ [])  -- LDC
+    ∷ row 131 (UB ∷ B ∷ UB ∷ []) 0 0 (λ v. constants (one v) (two v) (three v))  -- LDC; it gives as many words as its last operand says
     ∷ row 132 (B ∷ []) 0 1 (λ v. address (up 0) (one v))  -- LLA
     ∷ row 133 (B ∷ []) 0 1 (λ v. load globals (one v))  -- LDO
     ∷ row 134 (B ∷ []) 0 1 (λ v. address globals (one v))  -- LAO
@@ -138,7 +138,8 @@ appendixB =
     ∷ other 210 211 (SB ∷ [])  -- EFJ, NFJ
     ∷ row 212 (SB ∷ []) 1 0 (λ v. jump-if 0 (one v))  -- FJP
     ∷ row 213 (W ∷ []) 1 0 (λ v. jump-if 0 (one v))  -- FJPL
-    ∷ other 214 215 (B ∷ [])  -- XJP, IXA
+    ∷ row 214 (B ∷ []) 1 0 (λ v. case-jump (one v))  -- XJP
+    ∷ other 215 215 (B ∷ [])  -- IXA
     ∷ other 216 216 (UB ∷ UB ∷ [])  -- IXP
     ∷ other 217 217 (UB ∷ B ∷ [])  -- STE
     ∷ other 218 223 []  -- INN, UNI, INT, DIF, SIGNAL, WAIT

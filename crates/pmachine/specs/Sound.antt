@@ -7,7 +7,7 @@ use mathlib.Core.Bool.{Bool, true}
 use lib.ListN.{length, replicate}
 use lib.Dec.{leb}
 use Rattle.basis.specs.Bools.{every}
-use Rattle.segment.specs.Head.{words, dict, count, entry, linked, datasize, start, pool}
+use Rattle.segment.specs.Head.{words, dict, count, entry, linked, datasize, start, pool, realPool}
 use Rattle.pmachine.specs.State.{Registers, Kind, ready, finished, faulted, State}
 use Rattle.pmachine.specs.Step.{floor}
 
@@ -65,6 +65,7 @@ pub record Loaded (s : List ℕ) : Type 0 where
   pub long : 32 ≤ length s
   pub short : length s ≤ 65534
   pub pool-high : pool s < words s
+  pub reals-high : realPool s ≤ words s
   pub dict-low : 11 ≤ dict s
   pub some : 1 ≤ count s
   pub many : count s ≤ 255

@@ -7,9 +7,10 @@ use lib.ListN.{length, getD}
 use lib.Dec.{ltb, leb, eqb}
 use Rattle.basis.specs.Bools.{inside}
 use Rattle.basis.specs.Integer.{leqOf}
-use Rattle.segment.specs.Head.{words, count, linked, datasize, start, pool}
+use Rattle.segment.specs.Head.{words, word, count, linked, datasize, start, pool}
 use Rattle.pmachine.specs.State.{Registers}
-use Rattle.pmachine.specs.Meaning.{Whose, globals, up, Meaning, constant, pool-offset, load, address, store, index, indirect, unary, binary, division, duplicate, swap, nothing, subrange, jump, jump-if, call, return}
+use Rattle.pmachine.specs.Meaning.{Whose, globals, up, Meaning, constant, pool-offset, constants, load, address, store, index, indirect, unary, binary, division, duplicate, swap, nothing, subrange, jump, jump-if, case-jump, call, return}
+use Rattle.pmachine.specs.Pool.{inPool, constantsOf, onTop, inTable, armOffset}
 use Rattle.pmachine.specs.Decoding.{Instruction, Decoded, instruction, faulty, decode}
 
 -- A fault; the return that finishes; or the registers after the step, and the words that it writes, from a place upward.
@@ -69,6 +70,11 @@ readable w shared base i = not (eqb base 0) && leb (base + i) 65535 && (private 
 -- "Jumps count from the byte after the instruction", by a distance in two's complement. A target below 0 counts as 0, which faults too.
 unfoldable pub target : ℕ → ℕ → ℕ
 target next d = cond (ltb d 32768) (next + d) (next + d - 65536)
+
+-- XJP, of an index in its table: "then jump W3 words from the current location", where W3 is the index's word of the table. Document 01 decides jumps, so
+-- it counts bytes, from the byte after the instruction: unit and origin are here and nowhere else.
+unfoldable pub caseTarget : List ℕ → ℕ → ℕ → ℕ → ℕ
+caseTarget s b next i = target next (word s (pool s + armOffset s b i))
 
 -- 8: "routine number outside 1..n"; request 1: of a routine that is not linked, "Calling it gives fault 8."
 abbrev pub callable : List ℕ → ℕ → Bool
@@ -138,6 +144,7 @@ module _ (s shared w : List ℕ) (r : Registers) where
   unfoldable pub asks : ℕ → Meaning → List Ground
   asks next (constant v) = []
   asks next (pool-offset b) = 6 when (eqb (pool s) 0 || leb (words s) (pool s + b)) ∷ []
+  asks next (constants mode b n) = 6 when not (inPool s b n) ∷ []
   asks next (load p x) = 9 when isBroken (link p) ∷ 6 when not (private w (offset p x)) ∷ []
   asks next (address p x) = 9 when isBroken (link p) ∷ 6 when not (private w (offset p x)) ∷ []
   asks next (store p x) = 9 when isBroken (link p) ∷ 6 when not (private w (offset p x)) ∷ []
@@ -152,6 +159,10 @@ module _ (s shared w : List ℕ) (r : Registers) where
   asks next subrange = 10 when not (eqb (leqOf (stack 1) (stack 2)) 1 && eqb (leqOf (stack 2) (stack 0)) 1) ∷ []
   asks next (jump d) = 7 when not (inside 22 (length s) (target next d)) ∷ []
   asks next (jump-if b d) = 7 when (eqb (stack 0 % 2) b && not (inside 22 (length s) (target next d))) ∷ []
+  asks next (case-jump b) =
+      6 when not (inPool s b 2 && (not (inTable s b (stack 0)) || inPool s (armOffset s b (stack 0)) 1))
+      ∷ 7 when (inTable s b (stack 0) && not (inside 22 (length s) (caseTarget s b next (stack 0))))
+      ∷ []
   asks next (call p k) = 9 when isBroken (link p) ∷ 8 when not (callable s k) ∷ []
   asks next (return b) = 9 when not (eqb (r .m) 1 || resumes s w mark (r .m + 5 + b)) ∷ []
 
@@ -159,6 +170,7 @@ module _ (s shared w : List ℕ) (r : Registers) where
   unfoldable pub effect : ℕ → ℕ → Meaning → Outcome
   effect sp next (constant v) = goes (moved r sp next) sp (v ∷ [])
   effect sp next (pool-offset b) = goes (moved r sp next) sp ((pool s + b) ∷ [])
+  effect sp next (constants mode b n) = goes (moved r (sp - n) next) (sp - n) (onTop (constantsOf s mode b n))
   effect sp next (load p x) = goes (moved r sp next) sp (getD w (offset p x) 0 ∷ [])
   effect sp next (address p x) = goes (moved r sp next) sp (offset p x ∷ [])
   effect sp next (store p x) = goes (moved r sp next) (offset p x) (stack 0 ∷ [])
@@ -173,6 +185,7 @@ module _ (s shared w : List ℕ) (r : Registers) where
   effect sp next subrange = goes (moved r sp next) sp []
   effect sp next (jump d) = goes (moved r sp (target next d)) sp []
   effect sp next (jump-if b d) = goes (moved r sp (cond (eqb (stack 0 % 2) b) (target next d) next)) sp []
+  effect sp next (case-jump b) = goes (moved r sp (cond (inTable s b (stack 0)) (caseTarget s b next (stack 0)) next)) sp []
   effect sp next (call p k) =
       goes (record { sp = newRecord s sp k; m = newRecord s sp k; counter = start s k; routine = k })
       (newRecord s sp k)

@@ -63,7 +63,7 @@ fn code_of(seg: &[u8], k: u16) {
     let start = r.start as usize;
     listing::heading(k, r);
     if r.entry != 0 {
-        lines(front(seg, until(seg, start)), start, 0, ALL);
+        lines(seg, until(seg, start), start, 0, ALL);
     }
 }
 
@@ -106,15 +106,16 @@ fn sooner(start: usize, place: usize, end: usize) -> usize {
     end
 }
 
-// Some instructions before and behind the one that a byte is part of.
+// Some instructions of a routine before and behind the one that a byte is part of.
 fn near(seg: &[u8], byte: usize) -> Outcome {
     let start = begin(seg, byte);
-    if bounds::either(start == 0, seg.len() <= byte) {
+    let end = until(seg, start);
+    if bounds::either(start == 0, end <= byte) {
         pond_say::text(b"cannot list that: the byte is part of no routine's code\n");
         return Outcome::Typing;
     }
     let n = passed(seg, start, byte);
-    lines(seg, start, less(n, BEFORE), counted(n, BEFORE, BEHIND));
+    lines(seg, end, start, less(n, BEFORE), counted(n, BEFORE, BEHIND));
     Outcome::Done
 }
 
@@ -181,11 +182,11 @@ fn more(n: usize) -> usize {
     n
 }
 
-// The lines of so many instructions from start on, but for some that are passed over.
-fn lines(seg: &[u8], start: usize, skipped: usize, count: usize) {
+// The lines of so many instructions from start on and before end, but for some that are passed over.
+fn lines(seg: &[u8], end: usize, start: usize, skipped: usize, count: usize) {
     let mut at = start;
     let mut k: usize = 0;
-    while at < seg.len() {
+    while at < end {
         let next = line(seg, at, skipped <= k);
         if next <= at {
             break;
@@ -200,7 +201,7 @@ fn lines(seg: &[u8], start: usize, skipped: usize, count: usize) {
 
 fn line(seg: &[u8], at: usize, shown: bool) -> usize {
     if shown {
-        return listing::line(seg, at);
+        return listing::line_with_arms(seg, at);
     }
     listing::after(seg, at)
 }

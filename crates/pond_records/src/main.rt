@@ -1,5 +1,5 @@
 // What is told of recorded faults that no command of `pond` makes, and that a caller of the library can have in a bench: fault 1 at the place that it
-// had before request 8, and records that the session's own numbers do not give. `stdout` holds the words.
+// had before request 8, fault 2 of an instruction that is carried since request 2, and records that the session's own numbers do not give. `stdout` holds the words.
 // Below it: `pond_why`, as for `show`.
 use machine::Cpu;
 use machine::Kind;
@@ -60,8 +60,18 @@ fn main() {
     told(b, &memory, &store, 1, 31);
     pond_say::text(b"another fault than the numbers give:\n");
     told(b, &memory, &store, 6, 30);
+    older(b, &memory);
     pond_say::text(b"a number that is no fault's:\n");
     told(b, &memory, &store, 11, 30);
+}
+
+// The same segment with a case jump at byte 30, XJP 1, which was not carried before request 2.
+fn older(b: Bench, memory: &[u16]) {
+    let mut store = STORE;
+    store[30] = 214;
+    store[31] = 1;
+    pond_say::text(b"a case jump that was not carried then:\n");
+    told(b, memory, &store, 2, 30);
 }
 
 // What `show` tells of a session that stands at byte 30, with this fault recorded.

@@ -39,7 +39,7 @@ fn rule(number: u8) {
           a segment has an even number of bytes, and 16 to 32767 words\n\
           bytes 12 and 13 say the byte sex: 01 00 is least byte first, 00 01 most byte first\n\
           the relocation pointer, word 1, must be 0\n\
-          the pool pointer, word 7, must be 0 or a word of the segment from word 11 on\n\
+          the pool pointer, word 7, must be 0 or a word of the segment from word 11 on, and the pool's first word 0 or a pointer inside the pool\n\
           the dictionary must begin at word 11 or later, have 1 to 255 routines, and end inside the segment\n\
           its entry must be a word from 12 to the last but one, or 0 for a routine that is declared and not linked, which routine 1 never is\n\
           its DATASIZE must be below 32768; more would mean native code, which is not carried\n\

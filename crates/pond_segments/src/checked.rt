@@ -73,8 +73,39 @@ fn header(h: Segment) {
     field(b"  dictionary pointer  ", h.dict);
     field(b"  relocation pointer  ", h.reloc);
     field(b"  pool pointer        ", h.pool);
+    pools(h);
     field(b"  real size           ", h.real);
     field(b"  routines            ", h.count);
+}
+
+// The words of the constant pool, which ends with the segment, and of the real pool at its end.
+fn pools(h: Segment) {
+    if h.pool == 0 {
+        pond_say::text(b"  constant pool       none\n");
+        return;
+    }
+    words(b"  constant pool       word", h.pool as usize, h.words);
+    if h.reals < h.words {
+        words(b"  real pool           word", h.reals, h.words);
+    } else {
+        pond_say::text(b"  real pool           none\n");
+    }
+}
+
+// The words from one on and before another, at least one.
+fn words(label: &[u8], first: usize, end: usize) {
+    pond_say::text(label);
+    if first < end {
+        if first < end - 1 {
+            pond_say::text(b"s ");
+            pond_say::number(first as u64);
+            pond_say::text(b" to ");
+        } else {
+            pond_say::text(b" ");
+        }
+        pond_say::number((end - 1) as u64);
+    }
+    pond_say::end();
 }
 
 // The byte sex in words.

@@ -10,6 +10,8 @@ pub fn flow(n: Numbers, f: Flow) {
     sentence(
         b"the jump leads to byte #, and the code is bytes 22 to #|\
           the jump leads to byte -#, and the code is bytes 22 to #|\
+          for index ~ the case table leads to byte #, and the code is bytes 22 to #|\
+          for index ~ the case table leads to byte -#, and the code is bytes 22 to #|\
           it calls routine #, and the segment has routines 1 to #|\
           it calls routine #, which the report declares and which was never linked in|\
           static link # of #, at word #, holds #, and must be 1_; the report has probably overwritten its own link|\
@@ -33,20 +35,22 @@ fn told(n: Numbers, f: Flow) -> [usize; 6] {
     match f {
         Flow::Target(t) => [0, t, code, 0, 0, 0],
         Flow::Before(k) => [1, k, code, 0, 0, 0],
-        Flow::Routine(k) => [2, k as usize, n.count as usize, 0, 0, 0],
-        Flow::Unlinked(k) => [3, k as usize, 0, 0, 0, 0],
+        Flow::Case(i, t) => [2, i as usize, t, code, 0, 0],
+        Flow::CaseBefore(i, k) => [3, i as usize, k, code, 0, 0],
+        Flow::Routine(k) => [4, k as usize, n.count as usize, 0, 0, 0],
+        Flow::Unlinked(k) => [5, k as usize, 0, 0, 0, 0],
         Flow::Link(of, left, at, value) => {
             let k = link(at, value);
             let nth = less(of as usize + 1, left as usize);
             [k, nth, of as usize, at as usize, value as usize, last]
         }
-        Flow::Dynamic(value) => [6, m, m + 1, value as usize, last, 0],
-        Flow::Caller(value) => [7, m, m + 4, value as usize, end(1, n.count as usize), 0],
-        Flow::Segment(value) => [8, m, m + 3, value as usize, 0, 0],
-        Flow::Resume(value) => [9, m, m + 2, value as usize, n.code as usize, 0],
+        Flow::Dynamic(value) => [8, m, m + 1, value as usize, last, 0],
+        Flow::Caller(value) => [9, m, m + 4, value as usize, end(1, n.count as usize), 0],
+        Flow::Segment(value) => [10, m, m + 3, value as usize, 0, 0],
+        Flow::Resume(value) => [11, m, m + 2, value as usize, n.code as usize, 0],
         Flow::Back(sp, b) => {
             let floor = n.floor as usize;
-            [10, m, b as usize, sp, floor, end(floor, n.len as usize)]
+            [12, m, b as usize, sp, floor, end(floor, n.len as usize)]
         }
     }
 }
@@ -54,7 +58,7 @@ fn told(n: Numbers, f: Flow) -> [usize; 6] {
 // The record at word 1 is the outermost, and its link is 0 from the start.
 fn link(at: u16, value: u16) -> usize {
     if at as usize + value as usize == 1 {
-        return 5;
+        return 7;
     }
-    4
+    6
 }

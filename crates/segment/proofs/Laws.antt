@@ -7,13 +7,13 @@ use mathlib.Core.Path.{_≡_, refl, sym, _∙_}
 use mathlib.Core.Logic.{_↔_, _⊎_, inl, inr, ⊎-elim}
 use mathlib.Core.List.{List, [], _∷_, cons≢nil}
 use mathlib.Core.Bool.{Bool, true, false, _&&_, _||_, not, cond, and-true, or-true}
-use borrow.Author.Tests.{leb-true, ltb-true, eqb-true, eqb-false, le-leb, lt-leb, ne-eqb}
+use borrow.Author.Tests.{leb-true, ltb-true, eqb-true, eqb-false, le-leb, lt-leb, lt-ltb, ne-eqb}
 use lib.ListN.{length}
 use lib.Dec.{leb, ltb, eqb}
 use Rattle.basis.specs.Bools.{inside}
-use Rattle.basis.proofs.Bools.{both-true, inside-true, or-cases}
+use Rattle.basis.proofs.Bools.{both-true, inside-true, inside-holds, or-cases, cond-holds}
 use Rattle.operand.specs.Bytes.{wordBy}
-use Rattle.segment.specs.Head.{words, least, word, dict, reloc, pool, count, entry, linked, datasize, exitic, start, shapeOk, sexOk, poolOk, entryOk, dataOk, exitOk}
+use Rattle.segment.specs.Head.{words, least, word, dict, reloc, pool, poolFirst, realPool, count, entry, linked, datasize, exitic, start, shapeOk, sexOk, relocOk, poolOk, entryOk, dataOk, exitOk}
 use Rattle.basis.specs.Checks.{Check, check, passed, refused, ruling, passes, followedBy}
 use Rattle.basis.proofs.Checks.{ruling-append, pass-all, stops, passing, followed, followed-by}
 use Rattle.segment.specs.Judge.{headChecks, routineChecks, routinesFrom, checks, judged}
@@ -56,7 +56,7 @@ pub record Header (s : List ℕ) : Type 0 where
   pub few : words s ≤ 32767
   pub sexed : sexOk s ≡ true
   pub relocs : reloc s ≡ 0
-  pub pools : (pool s ≡ 0) ⊎ ((11 ≤ pool s) × (pool s < words s))
+  pub pools : (pool s ≡ 0) ⊎ ((11 ≤ pool s) × (pool s < words s) × (pool s + poolFirst s < words s))
   pub low : 11 ≤ dict s
   pub some : 1 ≤ count s
   pub many : count s ≤ 255
@@ -67,8 +67,39 @@ shaped s h =
     let p = both-true (eqb (length s % 2) 0) _ h in
     omega (arith, eqb-true (length s % 2) 0 (p .0), inside-true _ _ _ (p .1))
 
-pub pooled : (s : List ℕ) → poolOk s ≡ true → (pool s ≡ 0) ⊎ ((11 ≤ pool s) × (pool s < words s))
-pooled s h = or-cases _ _ h (λ (e : eqb (pool s) 0 ≡ true). inl (eqb-true _ _ e)) (λ (e : inside 11 (words s) (pool s) ≡ true). inr (inside-true _ _ _ e))
+pub pooled : (s : List ℕ) → poolOk s ≡ true → (pool s ≡ 0) ⊎ ((11 ≤ pool s) × (pool s < words s) × (pool s + poolFirst s < words s))
+pooled s h =
+    or-cases _ _ h (λ (e : eqb (pool s) 0 ≡ true). inl (eqb-true _ _ e))
+    (λ (e : (inside 11 (words s) (pool s) && ltb (pool s + poolFirst s) (words s)) ≡ true).
+    let b = both-true _ _ e in
+    let i = inside-true _ _ _ (b .0) in
+    inr (i .0, i .1, ltb-true _ _ (b .1)))
+
+-- check 4, in numbers
+pub pool-check : (s : List ℕ) → (poolOk s ≡ true) ↔ ((pool s ≡ 0) ⊎ ((11 ≤ pool s) × (pool s + poolFirst s < words s)))
+pool-check s = (
+  λ h.
+      ⊎-elim (λ (e : pool s ≡ 0). inl e) (λ (e : (11 ≤ pool s) × (pool s < words s) × (pool s + poolFirst s < words s)). inr (e .0, e .2))
+      (pooled s h),
+  λ h.
+      ⊎-elim (λ (e : pool s ≡ 0). rw e)
+      (λ (e : (11 ≤ pool s) × (pool s + poolFirst s < words s)).
+      rw (inside-holds 11 (words s) (pool s) (e .0) (omega (arith, e .1)), lt-ltb (pool s + poolFirst s) (words s) (e .1)) (simp or-true)) h,
+)
+
+-- and it comes behind 1, 2 and 3, before all others
+pub four : (s : List ℕ) → shapeOk s ≡ true → sexOk s ≡ true → relocOk s ≡ true → poolOk s ≡ false → judged s ≡ refused 4 0
+unfolding judged checks headChecks ruling
+four s one two three bad = rw (one, two, three, bad)
+
+-- the real pool starts inside the pool, or at its end
+pub reals-high : (s : List ℕ) → (pool s ≡ 0) ⊎ ((11 ≤ pool s) × (pool s < words s) × (pool s + poolFirst s < words s)) → realPool s ≤ words s
+unfolding realPool
+reals-high s h =
+    ⊎-elim (λ (e : pool s ≡ 0). rw e (omega arith))
+    (λ (e : (11 ≤ pool s) × (pool s < words s) × (pool s + poolFirst s < words s)).
+    cond-holds (λ (n : ℕ). n ≤ words s) (eqb (pool s) 0) (λ _. omega arith)
+    (λ _. cond-holds (λ (n : ℕ). n ≤ words s) (eqb (poolFirst s) 0) (λ _. omega arith) (λ _. omega (arith, e .2)))) h
 
 pub head-good : (s : List ℕ) → ruling (headChecks s) ≡ passed → Header s
 unfolding headChecks

@@ -36,6 +36,16 @@ pool s = word s 7
 unfoldable pub real : List ℕ → ℕ
 real s = word s 8
 
+-- 000: "The first word of the constant pool points to the beginning of the real pool. This is a word pointer relative to the start of the constant
+-- pool; if there are no real constants in the code segment, this word must be 0."
+unfoldable pub poolFirst : List ℕ → ℕ
+poolFirst s = word s (pool s)
+
+-- Where the real pool starts, as a word number of the segment: what a report may read of the pool lies below it. Without a real pool that is the
+-- pool's end, W; with no pool at all it is 0.
+unfoldable pub realPool : List ℕ → ℕ
+realPool s = cond (eqb (pool s) 0) 0 (cond (eqb (poolFirst s) 0) (words s) (pool s + poolFirst s))
+
 -- "word D is the count n, word D+k the entry of routine k"
 unfoldable pub count : List ℕ → ℕ
 count s = word s (dict s)
@@ -66,6 +76,7 @@ headOf s = record {
   dict = dict s;
   reloc = reloc s;
   pool = pool s;
+  reals = realPool s;
   real = real s;
   count = count s;
 }
@@ -75,7 +86,7 @@ routineOf s k = record { entry = entry s k; datasize = datasize s k; exitic = ex
 
 -- the record of a segment that is not there yet
 abbrev pub freshOf : Segment
-freshOf = record { words = 0; least = true; dict = 0; reloc = 0; pool = 0; real = 0; count = 0 }
+freshOf = record { words = 0; least = true; dict = 0; reloc = 0; pool = 0; reals = 0; real = 0; count = 0 }
 
 -- 1: "segment length odd, or W outside 16..32,767"
 abbrev pub shapeOk : List ℕ → Bool
@@ -92,9 +103,9 @@ sexOk s = sexBytes (byteAt s 12) (byteAt s 13)
 abbrev pub relocOk : List ℕ → Bool
 relocOk s = eqb (reloc s) 0
 
--- 4: "pool pointer neither 0 nor 11..W-1"
+-- 4: "pool pointer neither 0 nor 11..W-1"; request 2: "The pool's first word must be 0 or point inside the pool (which ends at W), else refusal 4"
 abbrev pub poolOk : List ℕ → Bool
-poolOk s = eqb (pool s) 0 || inside 11 (words s) (pool s)
+poolOk s = eqb (pool s) 0 || (inside 11 (words s) (pool s) && ltb (pool s + poolFirst s) (words s))
 
 -- 5: "D outside 11..W-1, n outside 1..255, or D+n at or above W"
 abbrev pub dictOk : List ℕ → Bool

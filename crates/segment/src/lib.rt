@@ -4,16 +4,19 @@ use operand::byte_at;
 use operand::word_at;
 ghost use mathlib.Core.Path.{_≡_};
 ghost use Prim.Native.Nat.{_+_};
+ghost use mathlib.Core.Bool.{cond};
+ghost use lib.Dec.{eqb};
 ghost use Rattle.segment.specs.Head.{least, datasize, headOf, routineOf, freshOf};
 
 // The numbers of a segment's header: how many words, whether words are least byte first, the
-// dictionary, relocation and pool pointers, the real size, and how many routines.
+// dictionary, relocation and pool pointers, where the real pool starts, the real size, and how many routines.
 pub struct Segment {
     pub words: usize,
     pub least: bool,
     pub dict: u16,
     pub reloc: u16,
     pub pool: u16,
+    pub reals: usize,
     pub real: u16,
     pub count: u16,
 }
@@ -50,6 +53,7 @@ impl Segment {
             dict: 0,
             reloc: 0,
             pool: 0,
+            reals: 0,
             real: 0,
             count: 0,
         }
@@ -76,6 +80,19 @@ fn is_least(seg: &[u8]) -> bool
     byte_at(seg, Segment::SEX_BYTE) == Segment::ONE
 }
 
+// Where the real pool starts, of W, the pool pointer and the pool's first word: W without a real pool, 0 without a pool.
+fn reals_of(words: usize, pool: u16, first: u16) -> usize
+    ensures { λ r. ⌜ r ≡ cond (eqb pool 0) 0 (cond (eqb first 0) words (pool + first)) ⌝ }
+{
+    if pool == 0 {
+        return 0;
+    }
+    if first == 0 {
+        return words;
+    }
+    pool as usize + first as usize
+}
+
 // The header's numbers, set one after another in a fresh record.
 pub fn head(seg: &[u8]) -> Segment
     ensures { λ r. ⌜ r ≡ headOf (now (seg .entry)) ⌝ }
@@ -87,7 +104,9 @@ pub fn head(seg: &[u8]) -> Segment
     h.least = least;
     h.dict = dict;
     h.reloc = word_at(seg, least, Segment::RELOC);
-    h.pool = word_at(seg, least, Segment::POOL);
+    let pool = word_at(seg, least, Segment::POOL);
+    h.pool = pool;
+    h.reals = reals_of(h.words, pool, word_at(seg, least, pool as u32));
     h.real = word_at(seg, least, Segment::REAL);
     h.count = word_at(seg, least, dict as u32);
     h

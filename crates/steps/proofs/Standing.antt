@@ -9,7 +9,7 @@ use lib.Seq.{length-take-le}
 use Rattle.basis.specs.Part.{part, splice}
 use Rattle.basis.proofs.Part.{length-part, splice-same}
 use Rattle.pmachine.specs.State.{Registers}
-use Rattle.pmachine.specs.Step.{Outcome, goes, judge}
+use Rattle.pmachine.specs.Step.{Outcome, goes, floor, judge}
 use Rattle.pmachine.specs.Sound.{Ranged}
 use Rattle.pmachine.proofs.Judged.{judge-goes}
 use Rattle.plan.specs.declared.Facts.{Facts}
@@ -48,12 +48,15 @@ module _ {s m : List ℕ} {f : Facts} {at end j : ℕ} {r : Regs} (steady : Stea
   o = judge s (take j m) (part at end m) (regsOf r)
 
   -- of the answer that the judgement gave
-  module _ {answer p : Planned} (judged : outcomeOf r answer ≡ o) (e : answer ≡ p) where
-    told : outcomeOf r p ≡ o
-    told = sym (ap (outcomeOf r) e) ∙ judged
+  module _ {answer p : Planned} (judged : outcomeOf s r answer ≡ o) (e : answer ≡ p) where
+    told : outcomeOf s r p ≡ o
+    told = sym (ap (outcomeOf s r) e) ∙ judged
 
-    pub stands : {q : Stepped} {m′ : List ℕ} → Stood s (regsOf r) (outcomeOf r p) at end m q m′ → Stood s (regsOf r) o at end m q m′
+    pub stands : {q : Stepped} {m′ : List ℕ} → Stood s (regsOf r) (outcomeOf s r p) at end m q m′ → Stood s (regsOf r) o at end m q m′
     stands {q} {m′} z = subst (λ (x : Outcome). Stood s (regsOf r) x at end m q m′) told z
 
-    pub room : {q : Registers} {x : ℕ} {ws : List ℕ} → outcomeOf r p ≡ goes q x ws → x + length ws ≤ end - at
+    pub room : {q : Registers} {x : ℕ} {ws : List ℕ} → outcomeOf s r p ≡ goes q x ws → x + length ws ≤ end - at
     room g = let z = judge-goes s (take j m) (part at end m) (regsOf r) (steady .loaded) ranged (sym told ∙ g) in omega (arith, z .fits, wide)
+
+    pub dry : {q : Registers} {x : ℕ} {ws : List ℕ} → outcomeOf s r p ≡ goes q x ws → floor s ≤ q .sp
+    dry g = judge-goes s (take j m) (part at end m) (regsOf r) (steady .loaded) ranged (sym told ∙ g) .registers .sp-low

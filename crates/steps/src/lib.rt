@@ -28,7 +28,7 @@ fn judge_in(
     r: Regs,
 ) -> Planned
     requires { ⌜ Steady (now seg) facts (now mem) at end s r ⌝ }
-    ensures { λ p. ⌜ outcomeOf r p ≡ judge (now (seg .entry)) (take s (now (mem .entry))) (part at end (now (mem .entry))) (regsOf r) ⌝ }
+    ensures { λ p. ⌜ outcomeOf (now (seg .entry)) r p ≡ judge (now (seg .entry)) (take s (now (mem .entry))) (part at end (now (mem .entry))) (regsOf r) ⌝ }
 {
     judge::judge(seg, facts, &mem[at..end], &mem[..s], r)
 }
@@ -87,6 +87,10 @@ pub fn step(
             counter,
             routine,
         }),
+        Planned::Block(first, n, next, sex) => {
+            commit::put_block(mem, at, end, r.sp, n, seg, first, sex);
+            Stepped::Went(moved(r, r.sp - n, next))
+        }
         // only a step that faults asks how far it fetched
         Planned::Bad(n) => Stepped::Stuck(n, instruction::place_of(seg, n, r.counter)),
         Planned::Finish => Stepped::Ended,

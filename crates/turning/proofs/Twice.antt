@@ -14,7 +14,7 @@ use lib.Dec.{eqb}
 use Rattle.basis.specs.Bools.{inside}
 use Rattle.basis.proofs.Bools.{both-true, inside-holds, or-cases}
 use Rattle.operand.specs.Bytes.{byteAt, wordBy}
-use Rattle.segment.specs.Head.{words, least, word, dict, reloc, pool, real, count, entry, linked, datasize, exitic, start, sexBytes, sexOk}
+use Rattle.segment.specs.Head.{words, least, word, dict, reloc, pool, realPool, real, count, entry, linked, datasize, exitic, start, sexBytes, sexOk}
 use Rattle.segment.specs.Judge.{headChecks, routineChecks, routinesFrom, checks, judged}
 use Rattle.basis.specs.Checks.{passed}
 use Rattle.segment.proofs.Laws.{Header, all-good}
@@ -189,19 +189,24 @@ module _ (s : List ℕ) (ok : judged s ≡ passed) where
   unfolding position
   same-position w = rw (same-dict, same-count, same-framed (turned s) s w (count s) same-entry) refl
 
-  -- the same checks, so the same ruling
-  same-head : headChecks (turned s) ≡ headChecks s
+  -- with no pool there is no real pool
+  same-reals : pool s ≡ 0 → realPool (turned s) ≡ realPool s
+  unfolding realPool
+  same-reals none = rw (same-pool, none)
+
+  -- the same checks, so the same ruling; of a pool's first word nothing is asked, since there is none
+  same-head : pool s ≡ 0 → headChecks (turned s) ≡ headChecks s
   unfolding headChecks
-  same-head = rw (same-words, length-turned, same-reloc, same-pool, same-dict, same-count, sex-turned .0, good .sexed) refl
+  same-head none = rw (same-words, length-turned, same-reloc, same-pool, none, same-dict, same-count, sex-turned .0, good .sexed) refl
 
   same-three : (k : ℕ) → 1 ≤ k → k < 1 + count s → routineChecks (turned s) k ≡ routineChecks s k
   unfolding routineChecks
   same-three k l r =
       rw (same-linked k (omega arith), same-entry k (omega arith), same-datasize k l (omega arith), same-exitic k l (omega arith), same-words)
 
-  same-ruling : judged (turned s) ≡ judged s
+  same-ruling : pool s ≡ 0 → judged (turned s) ≡ judged s
   unfolding judged checks
-  same-ruling = rw (same-head, same-count, same-from (turned s) s (count s) 1 same-three)
+  same-ruling none = rw (same-head none, same-count, same-from (turned s) s (count s) 1 same-three)
 
   -- turned twice, it is the segment
   turned-back : (i : ℕ) (b : Bool) → position s (i / 2) ≡ b → swapByte (position s) (turned s) (turned s) i ≡ byteAt s i
@@ -231,12 +236,13 @@ twins s ok none = record {
   dicts = same-dict s ok;
   relocs = same-reloc s ok;
   pools = same-pool s ok;
+  real-pools = same-reals s ok none;
   reals = same-word s ok 8 refl;
   reserved-9 = same-word s ok 9 refl;
   reserved-10 = same-word s ok 10 refl;
   counts = same-count s ok;
   routines = same-routine s ok;
   positions = same-position s ok;
-  rulings = same-ruling s ok;
+  rulings = same-ruling s ok none;
   again = turned-twice s ok;
 }

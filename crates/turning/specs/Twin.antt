@@ -8,7 +8,7 @@ use mathlib.Core.List.{List}
 use mathlib.Core.Bool.{Bool, true, false, not, _||_}
 use lib.ListN.{length, take, drop}
 use Rattle.operand.specs.Bytes.{byteAt}
-use Rattle.segment.specs.Head.{least, word, dict, reloc, pool, real, count, entry, datasize, exitic, start}
+use Rattle.segment.specs.Head.{least, word, dict, reloc, pool, realPool, real, count, entry, datasize, exitic, start}
 use Rattle.segment.specs.Judge.{judged}
 use Rattle.basis.specs.Checks.{passed, refused}
 use Rattle.turning.specs.Turn.{position, swapAt, turned, turnRuling, outputOf}
@@ -38,6 +38,7 @@ pub record Twin (s t : List ℕ) : Type 0 where
   pub dicts : dict t ≡ dict s
   pub relocs : reloc t ≡ reloc s
   pub pools : pool t ≡ pool s
+  pub real-pools : realPool t ≡ realPool s
   pub reals : real t ≡ real s
   pub reserved-9 : word t 9 ≡ word s 9
   pub reserved-10 : word t 10 ≡ word s 10

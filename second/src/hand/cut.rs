@@ -43,8 +43,7 @@ struct Sexed<'a> {
 impl Sexed<'_> {
     /// Code whose last byte is the rig's last, 127.
     fn at_the_end(&mut self, code: &[u8], stack_top_first: &[u16]) -> Rig<'_> {
-        let rig = at_the_end(self.t, code, stack_top_first);
-        if self.most_first { rig.most_first() } else { rig }
+        at_the_end(self.t, code, stack_top_first).in_sex(self.most_first)
     }
 
     /// Code that ends with a B of one byte, and the same with two: from 80.
@@ -57,19 +56,20 @@ impl Sexed<'_> {
 }
 
 /// The first bytes with operands and the longest operands of their form: UB,
-/// SB, W, B, DB and B, DB and UB.
-const OPERANDS: [(&[u8], &[u8]); 6] = [
+/// SB, W, B, DB and B, DB and UB, UB and B and UB.
+const OPERANDS: [(&[u8], &[u8]); 7] = [
     (&[128, 144, 145, 239, 240], &[2]), // LDCB CPL CPG SCPI1 SCPI2
     (&[138, 212, 241], &[0]), // UJP FJP TJP
     (&[129, 139, 213], &[0, 0]), // LDCI JPL FJPL
-    // LCO LLA LDO LAO LDL RPU STL SRO SLOD1 SLOD2 IND
-    (&[130, 132, 133, 134, 135, 150, 164, 165, 173, 174, 230], &[0x80, 1]),
+    // LCO LLA LDO LAO LDL RPU STL SRO SLOD1 SLOD2 XJP IND
+    (&[130, 132, 133, 134, 135, 150, 164, 165, 173, 174, 214, 230], &[0x80, 1]),
     (&[136, 137, 166], &[1, 0x80, 1]), // LDA LOD STR
     (&[146], &[1, 3]), // CPI
+    (&[131], &[2, 0x80, 1, 1]), // LDC
 ];
 
 /// Code whose last byte is the rig's last, 127.
-fn at_the_end<'a>(t: &'a mut Table, code: &[u8], stack_top_first: &[u16]) -> Rig<'a> {
+pub fn at_the_end<'a>(t: &'a mut Table, code: &[u8], stack_top_first: &[u16]) -> Rig<'a> {
     t.rig_at(128 - code.len(), code, stack_top_first)
 }
 
@@ -281,14 +281,14 @@ fn other_faults_keep_their_place(of: &mut Sexed) {
 
 fn not_carried_at_the_end(of: &mut Sexed) {
     of.t.says(r#""the first byte is judged for 1 and 2 before its operands are fetched"; 02, request 8: "All other faults keep theirs.""#);
-    for code in [&[131, 0][..], &[214, 0xFF], &[208, 1, 2], &[255, 0x80]] {
+    for code in [&[142, 0][..], &[215, 0xFF], &[208, 1, 2], &[255, 0x80]] {
         of.at_the_end(code, &[1]).faults(2);
     }
     if of.most_first {
         // all but the last two have operands in 000; `fault_2_not_carried` has
         // every byte that is not carried, least byte first
         let firsts = [
-            112, 131, 142, 147, 148, 149, 153, 155, 169, 172, 185, 199, 208, 210, 214, 216, 231, 242, 64, 255,
+            112, 142, 147, 148, 149, 153, 155, 169, 172, 185, 199, 208, 210, 215, 216, 231, 242, 64, 255,
         ];
         for first in firsts {
             of.at_the_end(&[first], &[1]).faults(2);

@@ -31,6 +31,7 @@ pub fn hand_numbers() -> Judged {
         dictionary: 11,
         relocation: 0,
         pool: 0,
+        real_start: 0,
         real_size: 2,
         routines: vec![routine(16, 2, 34, 34), routine(40, 3, 82, 82), routine(50, 0, 102, 102)],
     }
@@ -81,8 +82,9 @@ fn refusals_4_and_5(t: &mut Table) {
     for pool in [1, 10, 64, 65_535] {
         t.refused(&format!("pool pointer {pool}"), &hand_segment(pool), 4, 0);
     }
-    for pool in [0, 11, 63] {
-        let judged = Judged { pool: u32::from(pool), ..hand_numbers() };
+    // the word at 11 is n, 3: the real pool starts at 14
+    for (pool, real_start) in [(0, 0), (11, 14), (63, 64)] {
+        let judged = Judged { pool: u32::from(pool), real_start, ..hand_numbers() };
         t.judged(&format!("pool pointer {pool}"), &hand_segment(pool), judged);
     }
     t.says(r#""5 D outside 11..W-1, n outside 1..255, or D+n at or above W""#);
@@ -179,7 +181,7 @@ fn refusals_9_and_10(t: &mut Table) {
     t.turned("a pool and a short output", &hand_segment(56), &[UNWRITTEN; 127], 9);
     t.turned("a short output", &hand_segment(0), &[UNWRITTEN; 127], 10);
     t.turned("no output", &hand_segment(0), &[], 10);
-    t.refused("EXITIC and a pool", &hand_with(&[(15, 0), (7, 56)]), 8, 1);
+    t.refused("EXITIC and a pool", &hand_with(&[(15, 0), (7, 56), (56, 0)]), 8, 1);
 }
 
 fn turning(t: &mut Table) {

@@ -2,8 +2,9 @@
 //! that every entry refuses an unsound bench with 11, before all else.
 
 use super::benches::{empty, in_slot, rigged};
+use super::pool::{turned_with_first, with_first};
 use super::segments::hand_with;
-use super::{at_record, ready, Table};
+use super::{at_record, ready, set_words, Table};
 use crate::bench::{Record, Slot};
 use crate::machine::Kind;
 use crate::world::{Call, World};
@@ -15,6 +16,7 @@ pub fn fill(t: &mut Table) {
     soundness_of_sizes(t);
     soundness_of_slots(t);
     soundness_of_unlinked_routines(t);
+    soundness_of_pools(t);
     soundness_of_regions(t);
     soundness_of_sessions(t);
     soundness_of_l_against_6_and_g(t);
@@ -152,9 +154,51 @@ fn soundness_of_unlinked_routines(t: &mut Table) {
 
 /// The hand segment with words changed in slot 9.
 fn third_slot(world: &mut World, words: &[(usize, u16)]) {
+    in_third_slot(world, &hand_with(words));
+}
+
+fn in_third_slot(world: &mut World, bytes: &[u8]) {
     let start = world.store.len() as u64;
-    world.store.extend(hand_with(words));
-    in_slot(world, 9, start, 128);
+    world.store.extend(bytes);
+    in_slot(world, 9, start, bytes.len() as u64);
+}
+
+fn soundness_of_pools(t: &mut Table) {
+    t.says(r#"02, request 2: "The pool's first word must be 0 or point inside the pool (which ends at W), else refusal 4, in soundness too."; open question 11: a slot loaded before"#);
+    // the hand segment in slot 15, which session 1 names
+    still_sound!(t, |world| its_pool(world, 56, 0));
+    still_sound!(t, |world| its_pool(world, 56, 1));
+    still_sound!(t, |world| its_pool(world, 56, 7));
+    still_sound!(t, |world| its_pool(world, 63, 0));
+    unsound!(t, |world| its_pool(world, 56, 8));
+    unsound!(t, |world| its_pool(world, 56, 65_535));
+    unsound!(t, |world| its_pool(world, 56, 0x0700)); // 7, its bytes exchanged
+    unsound!(t, |world| its_pool(world, 63, 1));
+    unsound!(t, |world| its_pool(world, 64, 0));
+    unsound!(t, |world| its_pool(world, 10, 0));
+    // two NOPs, as such a slot may have them
+    unsound!(t, |world| its_pool(world, 56, 40_092));
+    // also where its session is no longer ready, or there is none
+    unsound!(t, |world| { its_pool(world, 56, 8); world.bench.records[1].session.kind = Kind::Finished; });
+    unsound!(t, |world| { its_pool(world, 56, 8); world.bench.records[1] = Record::UNUSED; });
+    still_sound!(t, |world| { its_pool(world, 56, 8); world.bench.records[1] = Record::UNUSED; world.bench.slots[15].loaded = false; });
+    // over the small segment's code, 05 07, in slot 2, where session 0 stands
+    unsound!(t, |world| world.store[14] = 15);
+    still_sound!(t, |world| { world.store[14] = 15; world.store[30] = 0; world.store[31] = 0; });
+    // in a slot that no session names
+    still_sound!(t, |world| in_third_slot(world, &with_first(56, 7)));
+    unsound!(t, |world| in_third_slot(world, &with_first(56, 8)));
+    unsound!(t, |world| in_third_slot(world, &with_first(63, 1)));
+    unsound!(t, |world| in_third_slot(world, &with_first(56, 65_535)));
+    still_sound!(t, |world| in_third_slot(world, &turned_with_first(56, 7)));
+    still_sound!(t, |world| in_third_slot(world, &turned_with_first(56, 0)));
+    unsound!(t, |world| in_third_slot(world, &turned_with_first(56, 8)));
+    unsound!(t, |world| in_third_slot(world, &turned_with_first(56, 0x0700)));
+}
+
+/// A pool of the hand segment, at 32 in the store, and its first word.
+fn its_pool(world: &mut World, pool: u16, first: u16) {
+    set_words(&mut world.store[32..160], &[(7, pool), (usize::from(pool), first)]);
 }
 
 fn soundness_of_regions(t: &mut Table) {

@@ -36,7 +36,7 @@ pub fn fill(t: &mut Table) {
 }
 
 /// The same segment most byte first: these words swapped.
-fn swapped(bytes: &[u8], words: impl IntoIterator<Item = usize>) -> Vec<u8> {
+pub fn swapped(bytes: &[u8], words: impl IntoIterator<Item = usize>) -> Vec<u8> {
     let mut bytes = bytes.to_vec();
     for word in words {
         bytes.swap(2 * word, 2 * word + 1);
@@ -104,49 +104,52 @@ fn crowd_words() -> impl Iterator<Item = usize> {
     [0, 1].into_iter().chain(6..=266).chain([289, 290, 297, 298])
 }
 
-/// Judged or refused, in both sexes.
-fn in_both_sexes(t: &mut Table, name: &str, bytes: &[u8], answer: Result<Judged, (u32, u32)>) {
-    let most_first = swapped(bytes, crowd_words());
+/// Judged or refused, the answer given for least byte first.
+fn in_sex(t: &mut Table, most_first: bool, name: &str, bytes: &[u8], answer: Result<Judged, (u32, u32)>) {
+    let (name, bytes) = match most_first {
+        true => (format!("{name}, most byte first"), swapped(bytes, crowd_words())),
+        false => (name.to_string(), bytes.to_vec()),
+    };
     match answer {
-        Ok(judged) => {
-            t.judged(name, bytes, judged.clone());
-            let judged = Judged { least_first: false, ..judged };
-            t.judged(&format!("{name}, most byte first"), &most_first, judged);
-        }
-        Err((number, place)) => {
-            t.refused(name, bytes, number, place);
-            t.refused(&format!("{name}, most byte first"), &most_first, number, place);
-        }
+        Ok(judged) => t.judged(&name, &bytes, Judged { least_first: !most_first, ..judged }),
+        Err((number, place)) => t.refused(&name, &bytes, number, place),
     }
 }
 
 fn entries_at_limits(t: &mut Table) {
     t.says(r#""6 an entry outside 12..W-2"; 02, request 1: "An entry of zero is lawful for every routine but routine 1""#);
-    for number in [1, 2, 255] {
-        for entry in [0, 1, 11, 12, 298, 299, 300, 65_535] {
-            // entry 12 has DATASIZE in word 12, routine 1's entry, and EXITIC
-            // in word 11, n
-            let word_12 = if number == 1 { 12 } else { 290 };
-            let lawful = match entry {
-                0 if number > 1 => Some(UNLINKED),
-                12 => Some(routine(12, word_12, 255, 26)),
-                298 => Some(routine(298, 5, 30, 598)),
-                _ => None,
-            };
-            let mut routines = vec![routine(290, 7, 22, 582); 255];
-            let answer = lawful.ok_or((6, number as u32)).map(|lawful| {
-                routines[number - 1] = lawful;
-                Judged { words: 300, real_size: 0, routines, ..hand_numbers() }
-            });
-            let name = format!("entry of routine {number} of 255: {entry}");
-            in_both_sexes(t, &name, &crowd(number, entry), answer);
+    for most_first in [false, true] {
+        for number in [1, 2, 255] {
+            for entry in [0, 1, 11, 12, 298, 299, 300, 65_535] {
+                let name = format!("entry of routine {number} of 255: {entry}");
+                let answer = with_entry(number, entry);
+                in_sex(t, most_first, &name, &crowd(number, entry), answer);
+            }
         }
+        // the low byte alone is zero: words 255 and 256 are entries, 290
+        let mut routines = vec![routine(290, 7, 22, 582); 255];
+        routines[1] = routine(256, 290, 290, 514);
+        let judged = Judged { words: 300, real_size: 0, routines, ..hand_numbers() };
+        in_sex(t, most_first, "entry 256", &crowd(2, 256), Ok(judged));
     }
-    // the low byte alone is zero: words 255 and 256 are entries, 290
+}
+
+/// What `crowd` with one of these entries is judged as.
+fn with_entry(number: usize, entry: u16) -> Result<Judged, (u32, u32)> {
+    // entry 12 has DATASIZE in word 12, routine 1's entry, and EXITIC in word
+    // 11, n
+    let word_12 = if number == 1 { 12 } else { 290 };
+    let lawful = match entry {
+        0 if number > 1 => Some(UNLINKED),
+        12 => Some(routine(12, word_12, 255, 26)),
+        298 => Some(routine(298, 5, 30, 598)),
+        _ => None,
+    };
     let mut routines = vec![routine(290, 7, 22, 582); 255];
-    routines[1] = routine(256, 290, 290, 514);
-    let judged = Judged { words: 300, real_size: 0, routines, ..hand_numbers() };
-    in_both_sexes(t, "entry 256", &crowd(2, 256), Ok(judged));
+    lawful.ok_or((6, number as u32)).map(|lawful| {
+        routines[number - 1] = lawful;
+        Judged { words: 300, real_size: 0, routines, ..hand_numbers() }
+    })
 }
 
 fn no_checks_6_to_8(t: &mut Table) {
@@ -162,7 +165,9 @@ fn no_checks_6_to_8(t: &mut Table) {
     let mut routines = vec![UNLINKED; 255];
     routines[0] = routine(290, 7, 22, 582);
     let judged = Judged { words: 300, real_size: 0, routines, ..hand_numbers() };
-    in_both_sexes(t, "all but routine 1 of 255", &bytes, Ok(judged));
+    for most_first in [false, true] {
+        in_sex(t, most_first, "all but routine 1 of 255", &bytes, Ok(judged.clone()));
+    }
     // the same at the greatest W; routine 2's entry is word 13
     let mut bytes = vec![0; 65_534];
     set_words(&mut bytes, &[(0, 11), (6, 1), (11, 2), (12, 32_765), (32_764, 65_533), (32_765, 4)]);
@@ -269,9 +274,9 @@ fn turning_refused(t: &mut Table) {
     let bytes = telling(&[(13, 0)]);
     t.turned("a short output", &bytes, &[UNWRITTEN; 127], 10);
     let mut pool = bytes.clone();
-    set_words(&mut pool, &[(7, 56)]);
+    set_words(&mut pool, &[(7, 56), (56, 0)]);
     t.turned("a pool", &pool, &[UNWRITTEN; 128], 9);
-    t.judged("a pool and an unlinked routine", &pool, Judged { pool: 56, ..hand_without(&[2]) });
+    t.judged("a pool and an unlinked routine", &pool, Judged { pool: 56, real_start: 64, ..hand_without(&[2]) });
 }
 
 /// The calls of a routine, without links to follow, with one, and with two.
@@ -410,7 +415,7 @@ fn a_session_in_an_unlinked_routine(t: &mut Table) {
 }
 
 /// S = 4, N = 60, every word 9; the segment at byte 2 of the store.
-fn unloaded(bytes: &[u8]) -> World {
+pub fn unloaded(bytes: &[u8]) -> World {
     let mut bench = blank_bench();
     (bench.shared, bench.words) = (4, 60);
     let mut store = vec![0xEE; 2];

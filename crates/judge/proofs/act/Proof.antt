@@ -11,8 +11,8 @@ use Rattle.pmachine.specs.Opcode.{opcode, rowIn, appendixB}
 use Rattle.pmachine.specs.Decoding.{lawful}
 use Rattle.plan.proofs.Decodes.{fetched-DB, here, at-globals, walked, strayed}
 use Rattle.plan.proofs.Arms.{sldc, sldl, sldo, gap-low, slla, sstl, gap-high, sind, keys, no-key, bad, moves}
-use Rattle.plan.proofs.Arms.{lacks, con, pol, bin, un, div, dup, swp, nop, chk, sta, ind, lod, adr, sto, jmp, bra, cal, ret, bad-lod, bad-adr, bad-sto, bad-cal}
-use Rattle.judge.proofs.Ways.{unknown, short, bare, cut, one, cut-second, deep, both, rec-fits, near, slim}
+use Rattle.plan.proofs.Arms.{lacks, con, pol, blk, cas, bin, un, div, dup, swp, nop, chk, sta, ind, lod, adr, sto, jmp, bra, cal, ret, bad-lod, bad-adr, bad-sto, bad-cal}
+use Rattle.judge.proofs.Ways.{unknown, short, bare, cut, one, cut-second, deep, both, cut-middle, cut-third, all-three, rec-fits, near, pool-fits, slim}
 use Rattle.judge.proofs.act.Statement.{statement}
 use Rattle.judge.proofs.act.Tie as tie
 
@@ -91,7 +91,7 @@ act-spec = tie.close (tie.spec
     let arm = first .before in let ready = arm .before .before .before .before .pre .0 in
     both ready _ (arm .match .keys8) refl (first .unsigned2 .ensures) (second .before .before .d .given .1) (second .big6 .ensures)
     (linked .before .before .before .a8 .given .1) (linked .before .if1 .left) refl
-    (bad-adr ready _ (up _) (strayed _ _ _ _ (linked .reach .ensures) (c .enum-told10 .given .1)) _ (bad _ 9)))
+    (bad-adr ready _ (up _) (strayed _ _ _ _ (linked .reach .ensures) (c .enum-told10 .given .1)) _ (bad _ _ 9)))
     (λ c κs. let ready = c .before .before .before .before .before .before .before .before .before .before .before .before .before .before .before .before .before .pre .0 in
     (omega arith, (rec-fits ready _ (c .before .before .before .reach .ensures) (c .before .rec .given .1), ready .small)))
     -- LOD
@@ -117,7 +117,7 @@ act-spec = tie.close (tie.spec
     let arm = first .before in let ready = arm .before .before .before .before .pre .0 in
     both ready _ (arm .match .keys9) refl (first .unsigned3 .ensures) (second .before .before .d2 .given .1) (second .big7 .ensures)
     (linked .before .before .before .a9 .given .1) (linked .before .if2 .left) refl
-    (bad-lod ready _ (up _) (strayed _ _ _ _ (linked .reach2 .ensures) (c .enum-told13 .given .1)) _ (bad _ 9)))
+    (bad-lod ready _ (up _) (strayed _ _ _ _ (linked .reach2 .ensures) (c .enum-told13 .given .1)) _ (bad _ _ 9)))
     (λ c κs. let ready = c .before .before .before .before .before .before .before .before .before .before .before .before .before .before .before .before .before .pre .0 in
     (omega arith, rec-fits ready _ (c .before .before .before .reach2 .ensures) (c .before .rec2 .given .1)))
     -- UJP
@@ -188,7 +188,7 @@ act-spec = tie.close (tie.spec
     let arm = first .before in let ready = arm .before .before .before .before .pre .0 in
     both ready _ (arm .match .keys17) refl (first .unsigned6 .ensures) (second .before .before .d3 .given .1) (second .unsigned7 .ensures)
     (linked .before .before .before .a14 .given .1) (linked .before .if3 .left) refl
-    (bad-cal ready _ (up _) (strayed _ _ _ _ (linked .reach3 .ensures) (c .enum-told20 .given .1)) _ (bad _ 9)))
+    (bad-cal ready _ (up _) (strayed _ _ _ _ (linked .reach3 .ensures) (c .enum-told20 .given .1)) _ (bad _ _ 9)))
     (λ c κs. search needs)
     (λ c κs. let ready = c .before .before .before .before .before .before .before .before .before .before .before .before .before .before .before .before .before .before .pre .0 in (
       omega (arith, rec-fits ready _ (c .before .before .before .before .reach3 .ensures) (c .before .before .rec3 .given .1)),
@@ -245,7 +245,7 @@ act-spec = tie.close (tie.spec
     (λ c. let second = c .before .before .before .before .before .before in let first = second .before .before .before .before in let arm = first .before in
     let ready = arm .before .before .before .before .pre .0 in
     both ready _ (arm .match .keys27) refl (first .unsigned8 .ensures) (second .before .before .d4 .given .1) (second .big11 .ensures)
-    (c .before .before .before .before .a18 .given .1) (c .before .before .if4 .left) refl (lacks ready _ _ 1 0 (bad _ 3) (c .if5 .taken)))
+    (c .before .before .before .before .a18 .given .1) (c .before .before .if4 .left) refl (lacks ready _ _ 1 0 (bad _ _ 3) (c .if5 .taken)))
     (λ c κs. search needs)
     (λ c. c .match27 .keys1)
     (λ c. c .match27 .keys2)
@@ -253,7 +253,7 @@ act-spec = tie.close (tie.spec
     let first = second .before .before .before .before in let arm = first .before in let ready = arm .before .before .before .before .pre .0 in
     both ready _ (arm .match .keys27) refl (first .unsigned8 .ensures) (second .before .before .d4 .given .1) (second .big11 .ensures)
     (linked .before .before .before .before .before .a18 .given .1) (linked .before .before .before .if4 .left) refl
-    (bad-sto ready _ (up _) (strayed _ _ _ _ (linked .reach4 .ensures) (c .enum-told26 .given .1)) _ (bad _ 9) (linked .before .if5 .left)))
+    (bad-sto ready _ (up _) (strayed _ _ _ _ (linked .reach4 .ensures) (c .enum-told26 .given .1)) _ (bad _ _ 9) (linked .before .if5 .left)))
     (λ c κs. let ready = c .before .before .before .before .before .before .before .before .before .before .before .before .before .before .before .before .before .before .before .pre .0 in
     (omega arith, (rec-fits ready _ (c .before .before .before .reach4 .ensures) (c .before .rec4 .given .1), ready .small)))
     -- SLOD1
@@ -268,7 +268,7 @@ act-spec = tie.close (tie.spec
     (λ c. let linked = c .before .before in let got = linked .before .before .before .before in let arm = got .before in
     let ready = arm .before .before .before .before .pre .0 in
     one ready _ (arm .match .keys28) refl (got .big12 .ensures) (linked .before .before .a19 .given .1) refl
-    (bad-lod ready _ (up 1) (strayed _ _ _ _ (linked .reach5 .ensures) (c .enum-told28 .given .1)) _ (bad _ 9)))
+    (bad-lod ready _ (up 1) (strayed _ _ _ _ (linked .reach5 .ensures) (c .enum-told28 .given .1)) _ (bad _ _ 9)))
     (λ c κs. let ready = c .before .before .before .before .before .before .before .before .before .before .before .before .pre .0 in
     (omega arith, rec-fits ready 1 (c .before .before .before .reach5 .ensures) (c .before .rec5 .given .1)))
     -- SLOD2
@@ -283,7 +283,7 @@ act-spec = tie.close (tie.spec
     (λ c. let linked = c .before .before in let got = linked .before .before .before .before in let arm = got .before in
     let ready = arm .before .before .before .before .pre .0 in
     one ready _ (arm .match .keys29) refl (got .big13 .ensures) (linked .before .before .a20 .given .1) refl
-    (bad-lod ready _ (up 2) (strayed _ _ _ _ (linked .reach6 .ensures) (c .enum-told30 .given .1)) _ (bad _ 9)))
+    (bad-lod ready _ (up 2) (strayed _ _ _ _ (linked .reach6 .ensures) (c .enum-told30 .given .1)) _ (bad _ _ 9)))
     (λ c κs. let ready = c .before .before .before .before .before .before .before .before .before .before .before .before .pre .0 in
     (omega arith, rec-fits ready 2 (c .before .before .before .reach6 .ensures) (c .before .rec6 .given .1)))
     -- EQUI
@@ -312,7 +312,7 @@ act-spec = tie.close (tie.spec
     cut ready _ (arm .match .keys39) refl (got .signed2 .ensures) (c .enum-told31 .given .1))
     (λ c. search needs)
     (λ c. let got = c .before .before .before .before .before in let arm = got .before in let ready = arm .before .before .before .before .pre .0 in
-    one ready _ (arm .match .keys39) refl (got .signed2 .ensures) (c .before .before .before .a21 .given .1) refl (lacks ready _ _ 1 0 (bad _ 3) (c .if6 .taken)))
+    one ready _ (arm .match .keys39) refl (got .signed2 .ensures) (c .before .before .before .a21 .given .1) refl (lacks ready _ _ 1 0 (bad _ _ 3) (c .if6 .taken)))
     (λ c κs. let ready = c .before .before .before .before .before .before .before .before .before .before .pre .0 in
     (near ready SB _ (c .before .before .before .before .before .signed2 .ensures) (c .before .before .before .a21 .given .1), search needs))
     -- FJPL
@@ -323,7 +323,7 @@ act-spec = tie.close (tie.spec
     cut ready _ (arm .match .keys40) refl (got .wide3 .ensures) (c .enum-told32 .given .1))
     (λ c. search needs)
     (λ c. let got = c .before .before .before .before .before in let arm = got .before in let ready = arm .before .before .before .before .pre .0 in
-    one ready _ (arm .match .keys40) refl (got .wide3 .ensures) (c .before .before .before .a22 .given .1) refl (lacks ready _ _ 1 0 (bad _ 3) (c .if7 .taken)))
+    one ready _ (arm .match .keys40) refl (got .wide3 .ensures) (c .before .before .before .a22 .given .1) refl (lacks ready _ _ 1 0 (bad _ _ 3) (c .if7 .taken)))
     (λ c κs. let ready = c .before .before .before .before .before .before .before .before .before .before .pre .0 in
     (near ready W _ (c .before .before .before .before .before .wide3 .ensures) (c .before .before .before .a22 .given .1), search needs))
     -- ABI
@@ -357,7 +357,7 @@ act-spec = tie.close (tie.spec
     (λ c. let linked = c .before .before in let got = linked .before .before .before .before in let arm = got .before in
     let ready = arm .before .before .before .before .pre .0 in
     one ready _ (arm .match .keys48) refl (got .unsigned9 .ensures) (linked .before .before .a24 .given .1) refl
-    (bad-cal ready _ (up 1) (strayed _ _ _ _ (linked .reach7 .ensures) (c .enum-told35 .given .1)) _ (bad _ 9)))
+    (bad-cal ready _ (up 1) (strayed _ _ _ _ (linked .reach7 .ensures) (c .enum-told35 .given .1)) _ (bad _ _ 9)))
     (λ c κs. search needs)
     (λ c κs. let ready = c .before .before .before .before .before .before .before .before .before .before .before .before .before .pre .0 in (
       omega (arith, rec-fits ready 1 (c .before .before .before .before .reach7 .ensures) (c .before .before .rec7 .given .1)),
@@ -375,7 +375,7 @@ act-spec = tie.close (tie.spec
     (λ c. let linked = c .before .before in let got = linked .before .before .before .before in let arm = got .before in
     let ready = arm .before .before .before .before .pre .0 in
     one ready _ (arm .match .keys49) refl (got .unsigned10 .ensures) (linked .before .before .a25 .given .1) refl
-    (bad-cal ready _ (up 2) (strayed _ _ _ _ (linked .reach8 .ensures) (c .enum-told37 .given .1)) _ (bad _ 9)))
+    (bad-cal ready _ (up 2) (strayed _ _ _ _ (linked .reach8 .ensures) (c .enum-told37 .given .1)) _ (bad _ _ 9)))
     (λ c κs. search needs)
     (λ c κs. let ready = c .before .before .before .before .before .before .before .before .before .before .before .before .before .pre .0 in (
       omega (arith, rec-fits ready 2 (c .before .before .before .before .reach8 .ensures) (c .before .before .rec8 .given .1)),
@@ -389,220 +389,267 @@ act-spec = tie.close (tie.spec
     cut ready _ (arm .match .keys50) refl (got .signed3 .ensures) (c .enum-told38 .given .1))
     (λ c. search needs)
     (λ c. let got = c .before .before .before .before .before in let arm = got .before in let ready = arm .before .before .before .before .pre .0 in
-    one ready _ (arm .match .keys50) refl (got .signed3 .ensures) (c .before .before .before .a26 .given .1) refl (lacks ready _ _ 1 0 (bad _ 3) (c .if8 .taken)))
+    one ready _ (arm .match .keys50) refl (got .signed3 .ensures) (c .before .before .before .a26 .given .1) refl (lacks ready _ _ 1 0 (bad _ _ 3) (c .if8 .taken)))
     (λ c κs. let ready = c .before .before .before .before .before .before .before .before .before .before .pre .0 in
     (near ready SB _ (c .before .before .before .before .before .signed3 .ensures) (c .before .before .before .a26 .given .1), search needs))
-    -- the short forms
+    -- LDC
     (λ c κs. search needs)
+    (λ c. c .match40 .keys1)
+    (λ c. c .match40 .keys2)
+    (λ c. let got = c .before .before in let arm = got .before in let ready = arm .before .before .before .before .pre .0 in
+    cut ready _ (arm .match .keys51) refl (got .unsigned11 .ensures) (c .enum-told39 .given .1))
+    (λ c κs. search needs)
+    (λ c. c .match41 .keys1)
+    (λ c. c .match41 .keys2)
+    (λ c. let second = c .before .before in let first = second .before .before .before .before in let arm = first .before in
+    let ready = arm .before .before .before .before .pre .0 in
+    cut-middle ready _ (arm .match .keys51) refl (first .unsigned11 .ensures) (second .before .before .mode .given .1) (second .big15 .ensures) (c .enum-told40 .given .1))
+    (λ c κs. search needs)
+    (λ c. c .match42 .keys1)
+    (λ c. c .match42 .keys2)
+    (λ c. let third = c .before .before in let second = third .before .before .before .before in let first = second .before .before .before .before in
+    let arm = first .before in let ready = arm .before .before .before .before .pre .0 in
+    cut-third ready _ (arm .match .keys51) refl (first .unsigned11 .ensures) (second .before .before .mode .given .1) (second .big15 .ensures)
+    (third .before .before .b .given .1) (third .unsigned12 .ensures) (c .enum-told41 .given .1))
+    (λ c κs. let third = c .before .before .before in let first = third .before .before .before .before .before .before .before .before in
+    pool-fits (first .before .before .before .before .before .pre .0))
+    (λ c κs. search needs)
+    -- XJP
+    (λ c κs. search needs)
+    (λ c. c .match43 .keys1)
+    (λ c. c .match43 .keys2)
+    (λ c. let got = c .before .before in let arm = got .before in let ready = arm .before .before .before .before .pre .0 in
+    cut ready _ (arm .match .keys52) refl (got .big16 .ensures) (c .enum-told42 .given .1))
     (λ c. search needs)
-    (λ c. slim _ _ (c .if10 .taken) (omega arith))
+    (λ c. let got = c .before .before .before .before .before in let arm = got .before in let ready = arm .before .before .before .before .pre .0 in
+    one ready _ (arm .match .keys52) refl (got .big16 .ensures) (c .before .before .before .b2 .given .1) refl (lacks ready _ _ 1 0 (bad _ _ 3) (c .if9 .taken)))
+    (λ c κs. search needs)
+    (λ c κs. let ready = c .before .before .before .before .before .before .before .before .before .before .before .pre .0 in (ready .loaded, ready .told))
+    (λ c κs. let ready = c .before .before .before .before .before .before .before .before .before .before .before .before .pre .0 in (
+      omega (arith, ready .ranged .sp-high, ready .small),
+      near ready B _ (c .before .before .before .before .before .before .before .big16 .ensures) (c .before .before .before .before .before .b2 .given .1),
+    ))
+    -- the short forms
     (λ c κs. search needs)
     (λ c. search needs)
     (λ c. slim _ _ (c .if11 .taken) (omega arith))
     (λ c κs. search needs)
     (λ c. search needs)
-    (λ c. slim _ _ (c .if13 .taken) (omega arith))
+    (λ c. slim _ _ (c .if12 .taken) (omega arith))
     (λ c κs. search needs)
     (λ c. search needs)
     (λ c. slim _ _ (c .if14 .taken) (omega arith))
     (λ c κs. search needs)
-    (λ c. slim _ _ (c .if16 .taken) (omega arith))
+    (λ c. search needs)
+    (λ c. slim _ _ (c .if15 .taken) (omega arith))
+    (λ c κs. search needs)
+    (λ c. slim _ _ (c .if17 .taken) (omega arith))
     (λ c κs. search needs)
     -- LDCB
     (λ c. let got = c .before .before .before .before in let arm = got .before in let ready = arm .before .before .before .before .pre .0 in
-    one ready _ (arm .match .keys1) refl (got .unsigned .ensures) (c .before .before .a .given .1) refl (con ready _ _ (c .push .ensures)))
+    one ready _ (arm .match .keys1) refl (got .unsigned .ensures) (c .before .before .a .given .1) refl (con ready _ _ (c .push .ensures _)))
     -- LDCI
     (λ c. let got = c .before .before .before .before in let arm = got .before in let ready = arm .before .before .before .before .pre .0 in
-    one ready _ (arm .match .keys2) refl (got .wide .ensures) (c .before .before .a2 .given .1) refl (con ready _ _ (c .push2 .ensures)))
+    one ready _ (arm .match .keys2) refl (got .wide .ensures) (c .before .before .a2 .given .1) refl (con ready _ _ (c .push2 .ensures _)))
     -- LCO
     (λ c. let got = c .before .before .before .before in let arm = got .before in let ready = arm .before .before .before .before .pre .0 in
-    one ready _ (arm .match .keys3) refl (got .big .ensures) (c .before .before .a3 .given .1) refl (pol ready _ _ (c .pool-offset .ensures)))
+    one ready _ (arm .match .keys3) refl (got .big .ensures) (c .before .before .a3 .given .1) refl (pol ready _ _ (c .pool-offset .ensures _)))
     -- LLA
     (λ c. let got = c .before .before .before .before in let arm = got .before in let ready = arm .before .before .before .before .pre .0 in
-    one ready _ (arm .match .keys4) refl (got .big2 .ensures) (c .before .before .a4 .given .1) refl (adr ready _ (up 0) (here _ _) _ (c .address .ensures)))
+    one ready _ (arm .match .keys4) refl (got .big2 .ensures) (c .before .before .a4 .given .1) refl (adr ready _ (up 0) (here _ _) _ (c .address .ensures _)))
     -- LDO
     (λ c. let got = c .before .before .before .before in let arm = got .before in let ready = arm .before .before .before .before .pre .0 in
-    one ready _ (arm .match .keys5) refl (got .big3 .ensures) (c .before .before .a5 .given .1) refl (lod ready _ globals (at-globals _ _) _ (c .load .ensures)))
+    one ready _ (arm .match .keys5) refl (got .big3 .ensures) (c .before .before .a5 .given .1) refl (lod ready _ globals (at-globals _ _) _ (c .load .ensures _)))
     -- LAO
     (λ c. let got = c .before .before .before .before in let arm = got .before in let ready = arm .before .before .before .before .pre .0 in
-    one ready _ (arm .match .keys6) refl (got .big4 .ensures) (c .before .before .a6 .given .1) refl (adr ready _ globals (at-globals _ _) _ (c .address2 .ensures)))
+    one ready _ (arm .match .keys6) refl (got .big4 .ensures) (c .before .before .a6 .given .1) refl (adr ready _ globals (at-globals _ _) _ (c .address2 .ensures _)))
     -- LDL
     (λ c. let got = c .before .before .before .before in let arm = got .before in let ready = arm .before .before .before .before .pre .0 in
-    one ready _ (arm .match .keys7) refl (got .big5 .ensures) (c .before .before .a7 .given .1) refl (lod ready _ (up 0) (here _ _) _ (c .load2 .ensures)))
+    one ready _ (arm .match .keys7) refl (got .big5 .ensures) (c .before .before .a7 .given .1) refl (lod ready _ (up 0) (here _ _) _ (c .load2 .ensures _)))
     -- LDA
     (λ c. let linked = c .before .before .before .before in let second = linked .before .before .before .before .before in
     let first = second .before .before .before .before in let arm = first .before in let ready = arm .before .before .before .before .pre .0 in
     both ready _ (arm .match .keys8) refl (first .unsigned2 .ensures) (second .before .before .d .given .1) (second .big6 .ensures)
     (linked .before .before .before .a8 .given .1) (linked .before .if1 .left) refl
-    (adr ready _ (up _) (walked _ _ _ _ (linked .reach .ensures) _ (c .before .before .rec .given .1)) _ (c .address3 .ensures)))
+    (adr ready _ (up _) (walked _ _ _ _ (linked .reach .ensures) _ (c .before .before .rec .given .1)) _ (c .address3 .ensures _)))
     -- LOD
     (λ c. let linked = c .before .before .before .before in let second = linked .before .before .before .before .before in
     let first = second .before .before .before .before in let arm = first .before in let ready = arm .before .before .before .before .pre .0 in
     both ready _ (arm .match .keys9) refl (first .unsigned3 .ensures) (second .before .before .d2 .given .1) (second .big7 .ensures)
     (linked .before .before .before .a9 .given .1) (linked .before .if2 .left) refl
-    (lod ready _ (up _) (walked _ _ _ _ (linked .reach2 .ensures) _ (c .before .before .rec2 .given .1)) _ (c .load3 .ensures)))
+    (lod ready _ (up _) (walked _ _ _ _ (linked .reach2 .ensures) _ (c .before .before .rec2 .given .1)) _ (c .load3 .ensures _)))
     -- UJP
     (λ c. let got = c .before .before .before .before in let arm = got .before in let ready = arm .before .before .before .before .pre .0 in
-    one ready _ (arm .match .keys10) refl (got .signed .ensures) (c .before .before .a10 .given .1) refl (jmp ready _ _ (c .jump .ensures)))
+    one ready _ (arm .match .keys10) refl (got .signed .ensures) (c .before .before .a10 .given .1) refl (jmp ready _ _ (c .jump .ensures _)))
     -- JPL
     (λ c. let got = c .before .before .before .before in let arm = got .before in let ready = arm .before .before .before .before .pre .0 in
-    one ready _ (arm .match .keys11) refl (got .wide2 .ensures) (c .before .before .a11 .given .1) refl (jmp ready _ _ (c .jump2 .ensures)))
+    one ready _ (arm .match .keys11) refl (got .wide2 .ensures) (c .before .before .a11 .given .1) refl (jmp ready _ _ (c .jump2 .ensures _)))
     -- MPI
     (λ c. let arm = c .before in let ready = arm .before .before .before .before .pre .0 in
-    bare ready _ (arm .match .keys12) refl (bin ready _ mulOf (c .two-words .ensures)))
+    bare ready _ (arm .match .keys12) refl (bin ready _ mulOf (c .two-words .ensures _)))
     -- DVI
     (λ c. let arm = c .before in let ready = arm .before .before .before .before .pre .0 in
-    bare ready _ (arm .match .keys13) refl (div ready _ quotOf (c .divide .ensures)))
+    bare ready _ (arm .match .keys13) refl (div ready _ quotOf (c .divide .ensures _)))
     -- MODI
     (λ c. let arm = c .before in let ready = arm .before .before .before .before .pre .0 in
-    bare ready _ (arm .match .keys14) refl (div ready _ remOf (c .divide2 .ensures)))
+    bare ready _ (arm .match .keys14) refl (div ready _ remOf (c .divide2 .ensures _)))
     -- CPL
     (λ c. let got = c .before .before .before .before .before in let arm = got .before in let ready = arm .before .before .before .before .pre .0 in
     one ready _ (arm .match .keys15) refl (got .unsigned4 .ensures) (c .before .before .before .a12 .given .1) refl
-    (cal ready _ (up 0) (here _ _) _ (c .call .ensures) (c .before .enter .ensures)))
+    (cal ready _ (up 0) (here _ _) _ (c .call .ensures _) (c .before .enter .ensures)))
     -- CPG
     (λ c. let got = c .before .before .before .before .before in let arm = got .before in let ready = arm .before .before .before .before .pre .0 in
     one ready _ (arm .match .keys16) refl (got .unsigned5 .ensures) (c .before .before .before .a13 .given .1) refl
-    (cal ready _ globals (at-globals _ _) _ (c .call2 .ensures) (c .before .enter2 .ensures)))
+    (cal ready _ globals (at-globals _ _) _ (c .call2 .ensures _) (c .before .enter2 .ensures)))
     -- CPI
     (λ c. let linked = c .before .before .before .before .before in let second = linked .before .before .before .before .before in
     let first = second .before .before .before .before in let arm = first .before in let ready = arm .before .before .before .before .pre .0 in
     both ready _ (arm .match .keys17) refl (first .unsigned6 .ensures) (second .before .before .d3 .given .1) (second .unsigned7 .ensures)
     (linked .before .before .before .a14 .given .1) (linked .before .if3 .left) refl
-    (cal ready _ (up _) (walked _ _ _ _ (linked .reach3 .ensures) _ (c .before .before .before .rec3 .given .1)) _ (c .call3 .ensures) (c .before .enter3 .ensures)))
+    (cal ready _ (up _) (walked _ _ _ _ (linked .reach3 .ensures) _ (c .before .before .before .rec3 .given .1)) _ (c .call3 .ensures _) (c .before .enter3 .ensures)))
     -- RPU
     (λ c. let got = c .before .before .before .before in let arm = got .before in let ready = arm .before .before .before .before .pre .0 in
-    one ready _ (arm .match .keys18) refl (got .big8 .ensures) (c .before .before .a15 .given .1) refl (ret ready _ _ (c .give-back .ensures)))
+    one ready _ (arm .match .keys18) refl (got .big8 .ensures) (c .before .before .a15 .given .1) refl (ret ready _ _ (c .give-back .ensures _)))
     -- LDCN
     (λ c. let arm = c .before in let ready = arm .before .before .before .before .pre .0 in
-    bare ready _ (arm .match .keys19) refl (con ready _ _ (c .push3 .ensures)))
+    bare ready _ (arm .match .keys19) refl (con ready _ _ (c .push3 .ensures _)))
     -- NOP
-    (λ c. let arm = c in let ready = arm .before .before .before .before .pre .0 in bare ready _ (arm .match .keys20) refl (nop ready _ (moves _ _ _)))
+    (λ c. let arm = c in let ready = arm .before .before .before .before .pre .0 in bare ready _ (arm .match .keys20) refl (nop ready _ (moves _ _ _ _)))
     -- LOR
     (λ c. let arm = c .before in let ready = arm .before .before .before .before .pre .0 in
-    bare ready _ (arm .match .keys21) refl (bin ready _ orOf (c .two-words2 .ensures)))
+    bare ready _ (arm .match .keys21) refl (bin ready _ orOf (c .two-words2 .ensures _)))
     -- LAND
     (λ c. let arm = c .before in let ready = arm .before .before .before .before .pre .0 in
-    bare ready _ (arm .match .keys22) refl (bin ready _ andOf (c .two-words3 .ensures)))
+    bare ready _ (arm .match .keys22) refl (bin ready _ andOf (c .two-words3 .ensures _)))
     -- ADI
     (λ c. let arm = c .before in let ready = arm .before .before .before .before .pre .0 in
-    bare ready _ (arm .match .keys23) refl (bin ready _ addOf (c .two-words4 .ensures)))
+    bare ready _ (arm .match .keys23) refl (bin ready _ addOf (c .two-words4 .ensures _)))
     -- SBI
     (λ c. let arm = c .before in let ready = arm .before .before .before .before .pre .0 in
-    bare ready _ (arm .match .keys24) refl (bin ready _ subOf (c .two-words5 .ensures)))
+    bare ready _ (arm .match .keys24) refl (bin ready _ subOf (c .two-words5 .ensures _)))
     -- STL
     (λ c. let got = c .before .before .before .before in let arm = got .before in let ready = arm .before .before .before .before .pre .0 in
-    one ready _ (arm .match .keys25) refl (got .big9 .ensures) (c .before .before .a16 .given .1) refl (sto ready _ (up 0) (here _ _) _ (c .store .ensures)))
+    one ready _ (arm .match .keys25) refl (got .big9 .ensures) (c .before .before .a16 .given .1) refl (sto ready _ (up 0) (here _ _) _ (c .store .ensures _)))
     -- SRO
     (λ c. let got = c .before .before .before .before in let arm = got .before in let ready = arm .before .before .before .before .pre .0 in
-    one ready _ (arm .match .keys26) refl (got .big10 .ensures) (c .before .before .a17 .given .1) refl (sto ready _ globals (at-globals _ _) _ (c .store2 .ensures)))
+    one ready _ (arm .match .keys26) refl (got .big10 .ensures) (c .before .before .a17 .given .1) refl (sto ready _ globals (at-globals _ _) _ (c .store2 .ensures _)))
     -- STR
     (λ c. let linked = c .before .before .before .before in let second = linked .before .before .before .before .before .before .before in
     let first = second .before .before .before .before in let arm = first .before in let ready = arm .before .before .before .before .pre .0 in
     both ready _ (arm .match .keys27) refl (first .unsigned8 .ensures) (second .before .before .d4 .given .1) (second .big11 .ensures)
     (linked .before .before .before .before .before .a18 .given .1) (linked .before .before .before .if4 .left) refl
-    (sto ready _ (up _) (walked _ _ _ _ (linked .reach4 .ensures) _ (c .before .before .rec4 .given .1)) _ (c .store3 .ensures)))
+    (sto ready _ (up _) (walked _ _ _ _ (linked .reach4 .ensures) _ (c .before .before .rec4 .given .1)) _ (c .store3 .ensures _)))
     -- SLOD1
     (λ c. let linked = c .before .before .before .before in let got = linked .before .before .before .before in let arm = got .before in
     let ready = arm .before .before .before .before .pre .0 in
     one ready _ (arm .match .keys28) refl (got .big12 .ensures) (linked .before .before .a19 .given .1) refl
-    (lod ready _ (up 1) (walked _ _ _ _ (linked .reach5 .ensures) _ (c .before .before .rec5 .given .1)) _ (c .load4 .ensures)))
+    (lod ready _ (up 1) (walked _ _ _ _ (linked .reach5 .ensures) _ (c .before .before .rec5 .given .1)) _ (c .load4 .ensures _)))
     -- SLOD2
     (λ c. let linked = c .before .before .before .before in let got = linked .before .before .before .before in let arm = got .before in
     let ready = arm .before .before .before .before .pre .0 in
     one ready _ (arm .match .keys29) refl (got .big13 .ensures) (linked .before .before .a20 .given .1) refl
-    (lod ready _ (up 2) (walked _ _ _ _ (linked .reach6 .ensures) _ (c .before .before .rec6 .given .1)) _ (c .load5 .ensures)))
+    (lod ready _ (up 2) (walked _ _ _ _ (linked .reach6 .ensures) _ (c .before .before .rec6 .given .1)) _ (c .load5 .ensures _)))
     -- EQUI
     (λ c. let arm = c .before in let ready = arm .before .before .before .before .pre .0 in
-    bare ready _ (arm .match .keys30) refl (bin ready _ eqOf (c .two-words6 .ensures)))
+    bare ready _ (arm .match .keys30) refl (bin ready _ eqOf (c .two-words6 .ensures _)))
     -- NEQI
     (λ c. let arm = c .before in let ready = arm .before .before .before .before .pre .0 in
-    bare ready _ (arm .match .keys31) refl (bin ready _ neOf (c .two-words7 .ensures)))
+    bare ready _ (arm .match .keys31) refl (bin ready _ neOf (c .two-words7 .ensures _)))
     -- LEQI
     (λ c. let arm = c .before in let ready = arm .before .before .before .before .pre .0 in
-    bare ready _ (arm .match .keys32) refl (bin ready _ leqOf (c .two-words8 .ensures)))
+    bare ready _ (arm .match .keys32) refl (bin ready _ leqOf (c .two-words8 .ensures _)))
     -- GEQI
     (λ c. let arm = c .before in let ready = arm .before .before .before .before .pre .0 in
-    bare ready _ (arm .match .keys33) refl (bin ready _ geqOf (c .two-words9 .ensures)))
+    bare ready _ (arm .match .keys33) refl (bin ready _ geqOf (c .two-words9 .ensures _)))
     -- LEUSW
     (λ c. let arm = c .before in let ready = arm .before .before .before .before .pre .0 in
-    bare ready _ (arm .match .keys34) refl (bin ready _ leuOf (c .two-words10 .ensures)))
+    bare ready _ (arm .match .keys34) refl (bin ready _ leuOf (c .two-words10 .ensures _)))
     -- GEUSW
     (λ c. let arm = c .before in let ready = arm .before .before .before .before .pre .0 in
-    bare ready _ (arm .match .keys35) refl (bin ready _ geuOf (c .two-words11 .ensures)))
+    bare ready _ (arm .match .keys35) refl (bin ready _ geuOf (c .two-words11 .ensures _)))
     -- SWAP
     (λ c. let arm = c .before in let ready = arm .before .before .before .before .pre .0 in
-    bare ready _ (arm .match .keys36) refl (swp ready _ (c .swap .ensures)))
+    bare ready _ (arm .match .keys36) refl (swp ready _ (c .swap .ensures _)))
     -- STO
     (λ c. let arm = c .before in let ready = arm .before .before .before .before .pre .0 in
-    bare ready _ (arm .match .keys37) refl (sta ready _ (c .store-at .ensures)))
+    bare ready _ (arm .match .keys37) refl (sta ready _ (c .store-at .ensures _)))
     -- CHK
     (λ c. let arm = c .before in let ready = arm .before .before .before .before .pre .0 in
-    bare ready _ (arm .match .keys38) refl (chk ready _ (c .check-range .ensures)))
+    bare ready _ (arm .match .keys38) refl (chk ready _ (c .check-range .ensures _)))
     -- FJP
     (λ c. let got = c .before .before .before .before .before .before in let arm = got .before in let ready = arm .before .before .before .before .pre .0 in
     one ready _ (arm .match .keys39) refl (got .signed2 .ensures) (c .before .before .before .before .a21 .given .1) refl
-    (bra ready _ 0 _ (c .before .if6 .left) (c .branch .ensures)))
+    (bra ready _ 0 _ (c .before .if6 .left) (c .branch .ensures _)))
     -- FJPL
     (λ c. let got = c .before .before .before .before .before .before in let arm = got .before in let ready = arm .before .before .before .before .pre .0 in
     one ready _ (arm .match .keys40) refl (got .wide3 .ensures) (c .before .before .before .before .a22 .given .1) refl
-    (bra ready _ 0 _ (c .before .if7 .left) (c .branch2 .ensures)))
+    (bra ready _ 0 _ (c .before .if7 .left) (c .branch2 .ensures _)))
     -- ABI
     (λ c. let arm = c .before in let ready = arm .before .before .before .before .pre .0 in
-    bare ready _ (arm .match .keys41) refl (un ready _ magOf (c .one-word .ensures)))
+    bare ready _ (arm .match .keys41) refl (un ready _ magOf (c .one-word .ensures _)))
     -- NGI
     (λ c. let arm = c .before in let ready = arm .before .before .before .before .pre .0 in
-    bare ready _ (arm .match .keys42) refl (un ready _ negOf (c .one-word2 .ensures)))
+    bare ready _ (arm .match .keys42) refl (un ready _ negOf (c .one-word2 .ensures _)))
     -- DUP1
     (λ c. let arm = c .before in let ready = arm .before .before .before .before .pre .0 in
-    bare ready _ (arm .match .keys43) refl (dup ready _ (c .duplicate .ensures)))
+    bare ready _ (arm .match .keys43) refl (dup ready _ (c .duplicate .ensures _)))
     -- LNOT
     (λ c. let arm = c .before in let ready = arm .before .before .before .before .pre .0 in
-    bare ready _ (arm .match .keys44) refl (un ready _ notOf (c .one-word3 .ensures)))
+    bare ready _ (arm .match .keys44) refl (un ready _ notOf (c .one-word3 .ensures _)))
     -- IND
     (λ c. let got = c .before .before .before .before in let arm = got .before in let ready = arm .before .before .before .before .pre .0 in
-    one ready _ (arm .match .keys45) refl (got .big14 .ensures) (c .before .before .a23 .given .1) refl (ind ready _ _ (c .index .ensures)))
+    one ready _ (arm .match .keys45) refl (got .big14 .ensures) (c .before .before .a23 .given .1) refl (ind ready _ _ (c .index .ensures _)))
     -- INCI
     (λ c. let arm = c .before in let ready = arm .before .before .before .before .pre .0 in
-    bare ready _ (arm .match .keys46) refl (un ready _ incOf (c .one-word4 .ensures)))
+    bare ready _ (arm .match .keys46) refl (un ready _ incOf (c .one-word4 .ensures _)))
     -- DECI
     (λ c. let arm = c .before in let ready = arm .before .before .before .before .pre .0 in
-    bare ready _ (arm .match .keys47) refl (un ready _ decOf (c .one-word5 .ensures)))
+    bare ready _ (arm .match .keys47) refl (un ready _ decOf (c .one-word5 .ensures _)))
     -- SCPI1
     (λ c. let linked = c .before .before .before .before .before in let got = linked .before .before .before .before in let arm = got .before in
     let ready = arm .before .before .before .before .pre .0 in
     one ready _ (arm .match .keys48) refl (got .unsigned9 .ensures) (linked .before .before .a24 .given .1) refl
-    (cal ready _ (up 1) (walked _ _ _ _ (linked .reach7 .ensures) _ (c .before .before .before .rec7 .given .1)) _ (c .call4 .ensures) (c .before .enter4 .ensures)))
+    (cal ready _ (up 1) (walked _ _ _ _ (linked .reach7 .ensures) _ (c .before .before .before .rec7 .given .1)) _ (c .call4 .ensures _) (c .before .enter4 .ensures)))
     -- SCPI2
     (λ c. let linked = c .before .before .before .before .before in let got = linked .before .before .before .before in let arm = got .before in
     let ready = arm .before .before .before .before .pre .0 in
     one ready _ (arm .match .keys49) refl (got .unsigned10 .ensures) (linked .before .before .a25 .given .1) refl
-    (cal ready _ (up 2) (walked _ _ _ _ (linked .reach8 .ensures) _ (c .before .before .before .rec8 .given .1)) _ (c .call5 .ensures) (c .before .enter5 .ensures)))
+    (cal ready _ (up 2) (walked _ _ _ _ (linked .reach8 .ensures) _ (c .before .before .before .rec8 .given .1)) _ (c .call5 .ensures _) (c .before .enter5 .ensures)))
     -- TJP
     (λ c. let got = c .before .before .before .before .before .before in let arm = got .before in let ready = arm .before .before .before .before .pre .0 in
     one ready _ (arm .match .keys50) refl (got .signed3 .ensures) (c .before .before .before .before .a26 .given .1) refl
-    (bra ready _ 1 _ (c .before .if8 .left) (c .branch3 .ensures)))
+    (bra ready _ 1 _ (c .before .if8 .left) (c .branch3 .ensures _)))
+    -- LDC
+    (λ c. let third = c .before .before .before .before .before in let second = third .before .before .before .before in
+    let first = second .before .before .before .before in let arm = first .before in let ready = arm .before .before .before .before .pre .0 in
+    all-three ready _ (arm .match .keys51) refl (first .unsigned11 .ensures) (second .before .before .mode .given .1) (second .big15 .ensures)
+    (third .before .before .b .given .1) (third .unsigned12 .ensures) (c .before .before .before .n .given .1) refl refl refl
+    (blk ready _ _ _ _ (c .block .ensures _) (c .before .words-at .ensures)))
+    -- XJP
+    (λ c. let got = c .before .before .before .before .before .before .before .before in let arm = got .before in let ready = arm .before .before .before .before .pre .0 in
+    one ready _ (arm .match .keys52) refl (got .big16 .ensures) (c .before .before .before .before .before .before .b2 .given .1) refl
+    (cas ready _ _ (c .before .before .before .if9 .left) (c .choose .ensures _) (rw (c .before .before .word-of .ensures) at (c .before .case-at .ensures))))
     -- the short forms
     (λ c. let start = c .before .before .before .before .before .before in let ready = start .pre .0 in
-    short ready _ (start .args .op) (sldc (start .args .op) (c .before .if9 .taken)) (con ready _ _ (c .push4 .ensures)))
+    short ready _ (start .args .op) (sldc (start .args .op) (c .before .if10 .taken)) (con ready _ _ (c .push4 .ensures _)))
     (λ c. let start = c .before .before .before .before .before .before .before in let ready = start .pre .0 in
-    short ready _ (start .args .op) (sldl (start .args .op) (c .before .before .if9 .left) (c .before .if10 .taken))
-    (lod ready _ (up 0) (here _ _) _ (c .load6 .ensures)))
+    short ready _ (start .args .op) (sldl (start .args .op) (c .before .before .if10 .left) (c .before .if11 .taken))
+    (lod ready _ (up 0) (here _ _) _ (c .load6 .ensures _)))
     (λ c. let start = c .before .before .before .before .before .before .before .before in let ready = start .pre .0 in
-    short ready _ (start .args .op) (sldo (start .args .op) (c .before .before .if10 .left) (c .before .if11 .taken))
-    (lod ready _ globals (at-globals _ _) _ (c .load7 .ensures)))
+    short ready _ (start .args .op) (sldo (start .args .op) (c .before .before .if11 .left) (c .before .if12 .taken))
+    (lod ready _ globals (at-globals _ _) _ (c .load7 .ensures _)))
     (λ c. let start = c .before .before .before .before .before .before .before .before .before .before in let ready = start .pre .0 in
-    short ready _ (start .args .op) (slla (start .args .op) (c .before .before .if12 .left) (c .before .if13 .taken))
-    (adr ready _ (up 0) (here _ _) _ (c .address4 .ensures)))
+    short ready _ (start .args .op) (slla (start .args .op) (c .before .before .if13 .left) (c .before .if14 .taken))
+    (adr ready _ (up 0) (here _ _) _ (c .address4 .ensures _)))
     (λ c. let start = c .before .before .before .before .before .before .before .before .before .before .before in let ready = start .pre .0 in
-    short ready _ (start .args .op) (sstl (start .args .op) (c .before .before .if13 .left) (c .before .if14 .taken))
-    (sto ready _ (up 0) (here _ _) _ (c .store4 .ensures)))
+    short ready _ (start .args .op) (sstl (start .args .op) (c .before .before .if14 .left) (c .before .if15 .taken))
+    (sto ready _ (up 0) (here _ _) _ (c .store4 .ensures _)))
     (λ c. let start = c .before .before .before .before .before .before .before .before .before .before .before .before .before in let ready = start .pre .0 in
-    short ready _ (start .args .op) (sind (start .args .op) (c .before .before .if15 .left) (c .before .if16 .taken)) (ind ready _ _ (c .index2 .ensures)))
+    short ready _ (start .args .op) (sind (start .args .op) (c .before .before .if16 .left) (c .before .if17 .taken)) (ind ready _ _ (c .index2 .ensures _)))
     (λ c. let start = c .before .before .before .before .before .before .before .before in let ready = start .pre .0 in
-    unknown ready _ (start .args .op) (gap-low (start .args .op) (c .before .if11 .left) (c .if12 .taken)))
+    unknown ready _ (start .args .op) (gap-low (start .args .op) (c .before .if12 .left) (c .if13 .taken)))
     (λ c. let start = c .before .before .before .before .before .before .before .before .before .before .before in let ready = start .pre .0 in
-    unknown ready _ (start .args .op) (gap-high (start .args .op) (c .before .if14 .left) (c .if15 .taken)))
+    unknown ready _ (start .args .op) (gap-high (start .args .op) (c .before .if15 .left) (c .if16 .taken)))
     (λ c. let start = c .before .before .before .before .before .before .before .before .before .before .before .before in
-    unknown (start .pre .0) _ (start .args .op) (no-key (start .args .op) (omega arith) (c .if16 .left)
+    unknown (start .pre .0) _ (start .args .op) (no-key (start .args .op) (omega arith) (c .if17 .left)
     (c .before .before .before .before .before .before .before .before .match .rest))))

@@ -7,11 +7,11 @@ use Rattle.plan_calls.proofs.call.Tie as tie
 
 returns : tie.Need-returns
 unfolding outcomeOf called
-returns c = simp (c .before .e .given .1)
+returns c = λ s. simp (c .before .e .given .1)
 
 returns-2 : tie.Need-returns-2
 unfolding outcomeOf called
-returns-2 c = simp (c .before .e2 .given .1)
+returns-2 c = λ s. simp (c .before .e2 .given .1)
 
 pub call-spec : {M : Type 1} → statement M
 call-spec = tie.close (tie.spec (λ c. search needs) (λ c. search needs) (λ c. search needs) (λ c. search needs) returns returns-2)

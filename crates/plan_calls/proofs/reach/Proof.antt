@@ -1,18 +1,12 @@
 -- `plan_calls::reach` meets its contract: one link, two, or what `walk` answers of the whole region. Assumes nothing.
 use native.Mathlib.Omega.{arith}
-use Prim.Native.Nat.{ℕ, _-_}
-use mathlib.Core.Path.{_≡_, sym, ap, _∙_}
-use mathlib.Core.List.{List}
-use lib.ListN.{length, take}
-use lib.Seq.{take-all}
+use mathlib.Core.Path.{sym, ap, _∙_}
 use borrow.Author.Needs.{needs}
+use Rattle.basis.proofs.Part.{part-all}
 use Rattle.plan.specs.Answer.{linkOf}
 use Rattle.plan.proofs.Links.{one-more, one-broken, one-inside}
 use Rattle.plan_calls.proofs.reach.Statement.{statement}
 use Rattle.plan_calls.proofs.reach.Tie as tie
-
-whole : (l : List ℕ) → take (length l - 0) l ≡ l
-whole l = take-all (length l - 0) l (omega arith)
 
 returns-2 : tie.Need-returns-2
 returns-2 c =
@@ -35,10 +29,10 @@ returns-3 c =
     rw (linked .before .if2 .taken) (c .link3 .ensures ∙ sym (one-more (a .region .now) (a .m) 2 _ (λ z. omega (arith, z)) e))
 
 walk-requires : tie.Need-walk-requires
-walk-requires c κs = let start = c .before .before .before .before in rw (whole (start .args .region .now)) (start .pre)
+walk-requires c κs = let start = c .before .before .before .before in rw (part-all (start .args .region .now)) (start .pre)
 
 returns-4 : tie.Need-returns-4
-returns-4 c = let a = c .before .before .before .before .before .args in rw (whole (a .region .now)) at (c .walk .ensures)
+returns-4 c = let a = c .before .before .before .before .before .args in rw (part-all (a .region .now)) at (c .walk .ensures)
 
 pub reach-spec : {M : Type 1} → statement M
 reach-spec =

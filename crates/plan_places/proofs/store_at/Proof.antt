@@ -8,19 +8,19 @@ use Rattle.plan_places.proofs.store_at.Tie as tie
 
 returns : tie.Need-returns
 unfolding outcomeOf lack
-returns c = simp (lt-ltb _ _ (c .if1 .taken))
+returns c = λ s. simp (lt-ltb _ _ (c .if1 .taken))
 
 returns-2 : tie.Need-returns-2
 unfolding outcomeOf lack storedAt
-returns-2 c = simp (le-ltb _ _ (c .before .before .before .if1 .left), ← c .before .word-of .ensures, lt-ltb _ _ (c .if2 .taken))
+returns-2 c = λ s. simp (le-ltb _ _ (c .before .before .before .if1 .left), ← c .before .word-of .ensures, lt-ltb _ _ (c .if2 .taken))
 
 returns-3 : tie.Need-returns-3
 unfolding outcomeOf lack storedAt
-returns-3 c = simp (le-ltb _ _ (c .before .before .before .before .if1 .left), ← c .before .before .word-of .ensures, le-ltb _ _ (c .before .if2 .left), le-leb _ _ (c .if3 .taken))
+returns-3 c = λ s. simp (le-ltb _ _ (c .before .before .before .before .if1 .left), ← c .before .before .word-of .ensures, le-ltb _ _ (c .before .if2 .left), le-leb _ _ (c .if3 .taken))
 
 returns-4 : tie.Need-returns-4
 unfolding outcomeOf lack storedAt
-returns-4 c =
+returns-4 c = λ s.
     let read = c .before .before .before .before in
     simp (
       le-ltb _ _ (read .before .before .if1 .left),

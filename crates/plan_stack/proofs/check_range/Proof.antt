@@ -8,11 +8,11 @@ use Rattle.plan_stack.proofs.check_range.Tie as tie
 
 returns : tie.Need-returns
 unfolding outcomeOf lack
-returns c = simp (lt-ltb _ _ (c .if1 .taken))
+returns c = λ s. simp (lt-ltb _ _ (c .if1 .taken))
 
 returns-2 : tie.Need-returns-2
 unfolding outcomeOf lack checked
-returns-2 c =
+returns-2 c = λ s.
     let second = c .before .before in
     let first = second .before .before .before in
     let start = first .before .before .before in
@@ -29,7 +29,7 @@ returns-2 c =
 
 returns-3 : tie.Need-returns-3
 unfolding outcomeOf lack checked
-returns-3 c =
+returns-3 c = λ s.
     let second = c .before in
     let first = second .before .before .before in
     let start = first .before .before .before in
@@ -46,7 +46,7 @@ returns-3 c =
 
 returns-4 : tie.Need-returns-4
 unfolding outcomeOf lack checked
-returns-4 c =
+returns-4 c = λ s.
     let first = c .before in
     let start = first .before .before .before in
     simp (

@@ -7,7 +7,7 @@ use Rattle.plan_stack.proofs.give_one.Tie as tie
 
 returns : tie.Need-returns
 unfolding outcomeOf
-returns c = refl
+returns c = λ s. refl
 
 pub give-one-spec : {M : Type 1} → statement M
 give-one-spec = tie.close (tie.spec returns)

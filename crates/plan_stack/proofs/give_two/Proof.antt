@@ -7,7 +7,7 @@ use Rattle.plan_stack.proofs.give_two.Tie as tie
 
 returns : tie.Need-returns
 unfolding outcomeOf
-returns c = refl
+returns c = λ s. refl
 
 pub give-two-spec : {M : Type 1} → statement M
 give-two-spec = tie.close (tie.spec (λ c. search needs) returns)

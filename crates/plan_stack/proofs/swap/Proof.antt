@@ -8,11 +8,11 @@ use Rattle.plan_stack.proofs.swap.Tie as tie
 
 returns : tie.Need-returns
 unfolding outcomeOf lack
-returns c = simp (lt-ltb _ _ (c .if1 .taken))
+returns c = λ s. simp (lt-ltb _ _ (c .if1 .taken))
 
 returns-2 : tie.Need-returns-2
 unfolding outcomeOf lack
-returns-2 c = simp (le-ltb _ _ (c .before .before .before .if1 .left), ← c .before .word-of .ensures, ← c .word-of2 .ensures)
+returns-2 c = λ s. simp (le-ltb _ _ (c .before .before .before .if1 .left), ← c .before .word-of .ensures, ← c .word-of2 .ensures)
 
 pub swap-spec : {M : Type 1} → statement M
 swap-spec = tie.close (tie.spec (λ c. search needs) returns (λ c. search needs) (λ c κs. search needs) (λ c κs. search needs) returns-2)

@@ -8,18 +8,18 @@ use Rattle.plan_stack.proofs.two_words.Tie as tie
 
 returns : tie.Need-returns
 unfolding outcomeOf lack
-returns c = simp (lt-ltb _ _ (c .if1 .taken))
+returns c = λ s. simp (lt-ltb _ _ (c .if1 .taken))
 
 returns-2 : tie.Need-returns-2
 unfolding lack
-returns-2 c =
+returns-2 c = λ s.
     let read = c .before .before in
     simp (
       le-ltb _ _ (read .before .before .before .if1 .left),
       ← read .before .word-of .ensures,
       ← read .word-of2 .ensures,
       ← c .before .two-of .ensures,
-      ← c .give-two .ensures,
+      ← c .give-two .ensures s,
     )
 
 pub two-words-spec : {M : Type 1} → statement M

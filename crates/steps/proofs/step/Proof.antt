@@ -4,7 +4,7 @@ use native.Mathlib.Omega.{arith}
 use Rattle.pmachine.specs.State.{faulted}
 use Rattle.pmachine.specs.Run.{written, settled}
 use Rattle.plan.specs.Answer.{outcomeOf}
-use Rattle.steps.proofs.Standing.{stands, room, same}
+use Rattle.steps.proofs.Standing.{stands, room, dry, same}
 use borrow.Author.Needs.{needs}
 use Rattle.steps.proofs.step.Statement.{statement}
 use Rattle.steps.proofs.step.Tie as tie
@@ -53,6 +53,23 @@ put-mark-requires c κs =
     let steady = judged .before .before .before .before .pre in
     let fits = room steady (judged .judge-in .ensures) (told .parent .given .1) refl in
     (steady .placed .order, (steady .placed .inside, omega (arith, fits)))
+
+-- words of the pool: as many as lie between the new stack pointer, which is not below 6+G, and the old one
+put-block-requires : tie.Need-put-block-requires
+unfolding outcomeOf
+put-block-requires c κs =
+    let judged = c .before .before .before .before in
+    let steady = judged .before .before .before .before .pre in
+    let low = dry steady (judged .judge-in .ensures) (c .before .before .first .given .1) refl in
+    (steady .placed .order, (steady .placed .inside, (omega (arith, low), (steady .ranged .sp-high, omega (arith, steady .ranged .sp-high, steady .placed .small)))))
+
+sub-moved : tie.Need-sub-moved
+unfolding outcomeOf
+sub-moved c =
+    let told = c .before .before .before .before .before .before in
+    let judged = told .before .before in
+    let steady = judged .before .before .before .before .pre in
+    omega (arith, dry steady (judged .judge-in .ensures) (told .first .given .1) refl)
 
 -- ---- what each answer leaves
 
@@ -112,14 +129,23 @@ returns-6 c =
 returns-7 : tie.Need-returns-7
 unfolding outcomeOf settled
 returns-7 c =
+    let put = c .before .before .before .before in
+    let told = put .before .before .before in
+    let judged = told .before .before in
+    let steady = judged .before .before .before .before .pre in
+    stands steady (judged .judge-in .ensures) (told .first .given .1) (record { registers = c .moved5 .ensures; kind = refl; memory = put .put-block .ensures })
+
+returns-8 : tie.Need-returns-8
+unfolding outcomeOf settled
+returns-8 c =
     let told = c .before .before in
     let judged = told .before .before in
     let steady = judged .before .before .before .before .pre in
     stands steady (judged .judge-in .ensures) (told .n .given .1) (record { registers = refl; kind = ap (faulted (told .n .given .0 .0)) (c .place-of .ensures); memory = same steady })
 
-returns-8 : tie.Need-returns-8
+returns-9 : tie.Need-returns-9
 unfolding outcomeOf settled
-returns-8 c =
+returns-9 c =
     let judged = c .before .before in
     let steady = judged .before .before .before .before .pre in
     stands steady (judged .judge-in .ensures) (c .enum-told .given .1) (record { registers = refl; kind = refl; memory = same steady })
@@ -147,6 +173,10 @@ step-spec =
     put-mark-requires
     (λ c. search needs)
     (λ c. search needs)
+    put-block-requires
+    sub-moved
+    (λ c κs. search needs)
+    (λ c. search needs)
     (λ c κs. search needs)
     (λ c. search needs)
     (λ c. search needs)
@@ -164,4 +194,6 @@ step-spec =
     (λ c. search needs)
     returns-7
     (λ c. search needs)
-    returns-8)
+    returns-8
+    (λ c. search needs)
+    returns-9)

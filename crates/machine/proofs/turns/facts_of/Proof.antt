@@ -15,6 +15,7 @@ returns c =
       dicts = ap (λ (x : Segment). x .dict) h;
       counts = ap (λ (x : Segment). x .count) h;
       pools = ap (λ (x : Segment). x .pool) h;
+      reals = ap (λ (x : Segment). x .reals) h;
       floors = c .floor .ensures;
     }
 

@@ -1,15 +1,14 @@
 -- `parts::lines` is safe and ends. The measure is what is left to go through. Assumes nothing.
 use borrow.Author.Needs.{needs}
 use Prim.Native.Nat.{_-_}
-use lib.ListN.{length}
 use Rattle.pond_parts.proofs.parts.lines.Statement.{statement}
 use Rattle.pond_parts.proofs.parts.lines.Tie as tie
 
 abbrev Inv-loop : tie.InvT-loop
-Inv-loop seg start skipped count at₀ k₀ at k = Unit {0}
+Inv-loop seg end start skipped count at₀ k₀ at k = Unit {0}
 
 abbrev μ-loop : tie.MeasureT-loop
-μ-loop seg start skipped count at₀ k₀ at k = length seg - at
+μ-loop seg end start skipped count at₀ k₀ at k = end - at
 
 loop-holds : tie.Need-loop-holds Inv-loop μ-loop
 loop-holds c = search needs
