@@ -2,7 +2,7 @@
 -- `pmachine`.
 use Prim.Native.Nat.{ℕ, suc, _+_, _-_, _≤_}
 use native.Mathlib.Omega.{arith}
-use mathlib.Core.Path.{_≡_, refl, sym, ap, _∙_}
+use mathlib.Core.Path.{_≡_, sym}
 use mathlib.Core.List.{List, [], _∷_, _++_, reverse-cons}
 use mathlib.Core.Bool.{Bool}
 use lib.ListN.{length, set}

@@ -35,6 +35,7 @@ use Rattle.demands.proofs.Cases.{cases, walks}
 use Rattle.demands.proofs.Calls.{calls}
 use Rattle.demands.proofs.Arithmetic.{arithmetic}
 use Rattle.demands.proofs.Marked.{cases-hold}
+use Rattle.demands.proofs.Tables.{arm-offset}
 use Rattle.demands.proofs.Witness.{witness}
 
 -- the parts of an opening and a closing, each found by what it says
@@ -95,6 +96,7 @@ demands =
       ldc-judged = ldc-judged;
       xjp-judged = xjp-judged;
       in-range = in-range;
+      arm-offset = arm-offset;
       stack-holds = λ s shared t mode b n next high i now then.
           let h = stack-holds s shared t mode b n next high i now then in
           record { stack = h .stack; below = h .below; count = h .count; registers = h .registers };

@@ -1,4 +1,5 @@
 -- The proofs of all that is promised, from the theorems of the layers below.
+pub mod Tables
 pub mod Witness
 pub mod Marked
 pub mod Steps

@@ -233,6 +233,10 @@ pub record Demands : Type 0 where
   pub in-range :
       (s : List ℕ) (b i : ℕ)
       → inTable s b i ≡ (leZ (integerOf 16 (lowest s b)) (integerOf 16 i) && leZ (integerOf 16 i) (integerOf 16 (highest s b)))
+  -- the index's word of the table is so many words behind the first as the index is above W1, as integers
+  pub arm-offset :
+      (s : List ℕ) (b i k : ℕ) → i < 65536 → lowest s b < 65536 → inTable s b i ≡ true → armOffset s b i ≡ b + 2 + k
+      → integerOf 16 (lowest s b) +ℤ pos k ≡ integerOf 16 i
   -- "Show once, over the count of words, what the stack then holds": for every n, after LDC that does not fault the stack, read from SP upward, is
   -- the n words in the order that `onTop` fixes and then the old stack; every word below is as it was; only SP, by n, and the counter moved
   pub stack-holds :

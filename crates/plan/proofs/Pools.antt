@@ -1,5 +1,5 @@
 -- The definition's outcome of LDC and of XJP is what the helpers answer. Above: Arms; below: Pushed of `pmachine`, Meanings, and Mirror.
-use Prim.Native.Nat.{ℕ, _+_, _-_, _≤_}
+use Prim.Native.Nat.{ℕ, _+_, _≤_}
 use native.Mathlib.Omega.{arith}
 use mathlib.Core.Path.{_≡_, refl, sym, _∙_}
 use mathlib.Core.List.{List}

@@ -1,6 +1,6 @@
 -- Laws of the words that LDC pushes: how many they are, and which is the last, by induction over their number; and of those that can be read.
 -- Above: Judged, Pushed, and the loop that writes them; below: Pool of specs.
-use Prim.Native.Nat.{ℕ, zero, suc, _+_, _≤_, _<_}
+use Prim.Native.Nat.{ℕ, zero, suc, _+_, _≤_}
 use native.Mathlib.Nat.{add-zero}
 use native.Mathlib.Omega.{arith}
 use mathlib.Core.Path.{_≡_, refl, sym, ap, _∙_}

@@ -1,19 +1,17 @@
 -- LDC and XJP: the laws of specs/Pushed. Above: Demands, and the proofs of the code's step; below: Pool, Frame, Runs.
 use Prim.Native.Nat.{ℕ, zero, suc, _+_, _-_, _≤_, _<_}
 use native.Mathlib.Omega.{arith}
-use mathlib.Core.Path.{_≡_, refl, sym, ap, _∙_, subst}
+use mathlib.Core.Path.{_≡_, refl, sym, ap, _∙_}
 use mathlib.Core.List.{List, [], _∷_, _++_, append-assoc}
 use mathlib.Core.Bool.{Bool, true, false, _&&_, _||_, not, cond, false≢true}
 use lib.ListN.{length, getD, take, drop, set}
 use lib.Seq.{sets, sets-eq, take-at, drop-at, length-take-le}
 use lib.Dec.{leb, ltb, eqb}
-use borrow.Author.Tests.{leb-true, leb-false, ltb-true, ltb-false, le-leb, lt-leb, le-ltb, lt-ltb}
+use borrow.Author.Tests.{leb-true, leb-false, le-ltb, lt-ltb}
 use lib.Signed.{leZ}
 use Rattle.basis.specs.Bools.{inside}
 use Rattle.basis.specs.Integer.{integerOf, truth, ordered, leqOf}
-use Rattle.basis.proofs.Bools.{both-true}
 use Rattle.operand.specs.Bytes.{wordBy}
-use Rattle.operand.specs.Operand.{UB, B}
 use Rattle.segment.specs.Head.{least, word, pool, realPool}
 use Rattle.pmachine.specs.State.{Registers, State}
 use Rattle.pmachine.specs.Meaning.{constants, case-jump}
@@ -22,7 +20,6 @@ use Rattle.pmachine.specs.Decoding.{Instruction, instruction, lawful, al
 use Rattle.pmachine.specs.Pool.{inPool, swaps, wordsFrom, constantsOf, onTop, lowest, highest, inTable, armOffset}
 use Rattle.pmachine.specs.Step.{Outcome, fault, goes, moved, floor, caseTarget, groundFor, firstFault, asks, effect, outcome, judgedBy, judge}
 use Rattle.pmachine.specs.Run.{isReady, written, settled, step}
-use Rattle.pmachine.specs.Sound.{Loaded}
 use Rattle.pmachine.specs.Pushed.{IsLdc, IsXjp, ldcComes, LdcJudged, xjpComes, InRange, XjpJudged, Holds, StackHolds, StackOrder, PoolWords, SamePool, LdcReads, XjpReads}
 use Rattle.pmachine.proofs.Pool.{top-one, length-constants, in-pool, some-pool}
 use Rattle.pmachine.proofs.Runs.{step-ready}
