@@ -1,5 +1,5 @@
 -- The code's answers in the definition's words: registers, links, and the outcome that a plan tells.
--- Above: contracts of `plan` and the three crates on it, `judge`, `machine` and `session`; below: Step of `pmachine`. What the helpers answer is in Mirror.
+-- Above: contracts of `plan` and the four crates on it, `judge`, `machine` and `session`; below: Step of `pmachine`. What the helpers answer is in Mirror.
 use Prim.Native.Nat.{ℕ, _-_}
 use mathlib.Core.List.{List, [], _∷_}
 use lib.Dec.{eqb}

@@ -1,6 +1,6 @@
 -- MIRROR OF THE CODE, for the proofs; nobody has to believe it. What each helper answers: the definition's outcome of a meaning, test by test as
 -- the code asks. proofs/Meanings shows that these are the definition's outcomes. Above: contracts of `plan` and
--- the three crates on it; below: Step of `pmachine`.
+-- the four crates on it; below: Step of `pmachine`.
 use Prim.Native.Nat.{ℕ, _+_, _-_, _%_}
 use mathlib.Core.List.{List, [], _∷_}
 use mathlib.Core.Bool.{Bool, _&&_, not, cond}

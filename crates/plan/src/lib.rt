@@ -1,5 +1,5 @@
 // What a step is judged with: registers, what a segment says, and what changes; and the two functions on them that every part asks.
-// Above: `plan_stack`, `plan_places` and `plan_calls`, what each meaning comes to, and all that names registers; below: the definition of a step.
+// Above: `plan_stack`, `plan_places`, `plan_calls` and `plan_pool`, what each meaning comes to, and all that names registers; below: the definition of a step.
 ghost use mathlib.Core.Path.{_≡_};
 ghost use mathlib.Core.List.{List};
 ghost use Prim.Native.Nat.{ℕ, _-_, _≤_, _<_};
