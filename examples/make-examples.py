@@ -1,7 +1,7 @@
 #!/usr/bin/env python3
 # Makes the example files beside it (small.seg is document 01's and is not made): two farms' reports on a shared archive, the two reports
-# of the spring accident, a mean that divides by the number of readings, a report with a routine that was never linked, a segment that is refused, and a
-# report that finds the units of its readings in a constant pool, in both byte sexes.
+# of the spring accident, a mean that divides by the number of readings, a report with a routine that was never linked, a segment that is refused, a
+# report that finds the units of its readings in a constant pool, in both byte sexes, a report that calls itself, and one that keeps a number by its address.
 # `make-examples.py --demo` prints the bytes that stand as constants in crates/pond_run/src/farms.rt.
 import os
 import sys
@@ -139,6 +139,40 @@ def report_with_units(sex):
 
 KINDS = [4, 1, 173, 2, 92, 9, 5, 3, 71]     # 17.3 C, 9.2 mg/l, 5 of a kind that the report does not know, 7.1 pH
 
+
+def calling(name, *routines):
+    """Several routines: for each its DATASIZE and its code, which ends with its RPU."""
+    words = [11, 0, None, None, None, None, 1, 0, 2, 0, 0, len(routines), *[0] * len(routines)]
+    out = bytearray(b''.join(b'..' if word is None else word.to_bytes(2, LEAST) for word in words))
+    out[4:12] = name.ljust(8).encode()
+    for k, (datasize, code) in enumerate(routines):
+        entry = len(out) // 2 + 1
+        out[24 + 2 * k:26 + 2 * k] = entry.to_bytes(2, LEAST)
+        out += (2 * entry + len(code)).to_bytes(2, LEAST) + datasize.to_bytes(2, LEAST) + bytes(code) + bytes([0x9C] * (len(code) % 2))
+    return bytes(out)
+
+
+# The stock of a pond after so many months, which is shared word 0. In each month there are as many pairs as in the month before, and those of the month
+# before that have young: stock(n) = stock(n - 1) + stock(n - 2), and 1 in months 0 and 1. It names no word of its own by its address.
+STOCK = [
+    0x00,                       # SLDC0: room for the answer
+    0x81, 0, 0x80, 0x78,        # LDCI 32768 SIND0: the months
+    0x91, 2,                    # CPG 2
+    0xA5, 1,                    # SRO 1
+    0x96, 0,                    # RPU 0
+]
+YOUNG = [0x01, 0x69, 0x8A, 13]  # SLDC1 SSTL2, UJP to the RPU
+OLDER = [
+    0x00, 0x20, 0xEE, 0x91, 2,          # SLDC0 SLDL1 DECI CPG 2: the month before
+    0x00, 0x20, 0x02, 0xA3, 0x91, 2,    # SLDC0 SLDL1 SLDC2 SBI CPG 2: the one before that
+    0xA2, 0x69,                         # ADI SSTL2
+]
+# local 1 is the month, local 2 the answer; RPU drops the month
+MONTH = [0x20, 0x01, 0xB2, 0xD4, len(YOUNG)] + YOUNG + OLDER + [0x96, 1]    # SLDL1 SLDC1 LEQI, FJP to OLDER
+assert YOUNG[-1] == len(OLDER)
+
+KEPT = [0x81, 20, 0, 0x07, 0xC4, 0x96, 0]                       # LDCI 20 SLDC7 STO RPU 0: a 7 in word 20
+
 STALE = 46
 READS = [0x81, STALE, 0, 0x78, 0xA5, 1, 0x96, 0]                # LDCI 46 SIND0 SRO 1 RPU 0
 WRITES = [0x81, STALE, 0, 0x00, 0xC4, 0x96, 0]                  # LDCI 46 SLDC0 STO RPU 0
@@ -154,6 +188,10 @@ FILES = {
     'no-start.seg': two_routines('NO-START', [0, 15], PRINTED),
     'units.seg': report_with_units(LEAST),
     'units-most.seg': report_with_units(MOST),
+    'stock.seg': calling('STOCK', (1, STOCK), (0, MONTH)),
+    'stock.words': (12).to_bytes(2, LEAST),
+    'stock-next.words': (15).to_bytes(2, LEAST),
+    'by-address.seg': segment('ADDRESS', 1, KEPT),
     'empty.words': bytes(4),
     'units.words': b''.join(w.to_bytes(2, LEAST) for w in KINDS),
     'archive.words': b''.join(w.to_bytes(2, LEAST) for w in ARCHIVE),

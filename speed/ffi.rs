@@ -17,12 +17,12 @@ const FAULTED: u64 = 2;
 pub unsafe extern "C" fn turn_rust(mem: *mut u16, nmem: u64, seg: *const u8, nseg: u64, regs: *mut u64, k: u64) -> u64 {
     let mem = std::slice::from_raw_parts_mut(mem, nmem as usize);
     let seg = std::slice::from_raw_parts(seg, nseg as usize);
-    turn(mem, seg, &mut *(regs as *mut [u64; 17]), k)
+    turn(mem, seg, &mut *(regs as *mut [u64; 18]), k)
 }
 
 /// A turn of at most `k` steps; it returns the steps done. The numbers of `regs` are those of pm.h.
-fn turn(mem: &mut [u16], seg: &[u8], regs: &mut [u64; 17], k: u64) -> u64 {
-    let [base, l, s, w2, d, n, g, sex, sp, m, ipc, proc, kind, fault, place, pool, reals] = regs;
+fn turn(mem: &mut [u16], seg: &[u8], regs: &mut [u64; 18], k: u64) -> u64 {
+    let [base, l, s, w2, d, n, g, sex, sp, m, ipc, proc, low, kind, fault, place, pool, reals] = regs;
     if *kind != READY {
         return 0;
     }
@@ -38,9 +38,11 @@ fn turn(mem: &mut [u16], seg: &[u8], regs: &mut [u64; 17], k: u64) -> u64 {
     let (shared, rest) = mem.split_at_mut(*s as usize);
     let begin = (*base - *s) as usize;
     let region = &mut rest[begin..begin + *l as usize];
-    let mut now = Registers { sp: *sp as usize, m: *m as usize, counter: *ipc as usize, routine: *proc as usize };
+    let mut now =
+        Registers { sp: *sp as usize, m: *m as usize, counter: *ipc as usize, routine: *proc as usize, low: *low as usize };
     let (done, end) = fast::run(&code, shared, region, &mut now, k);
     (*sp, *m, *ipc, *proc) = (now.sp as u64, now.m as u64, now.counter as u64, now.routine as u64);
+    *low = now.low as u64;
     match end {
         End::OutOfSteps => {}
         End::Finished => *kind = FINISHED,

@@ -2,7 +2,8 @@
    of the first, and times them alternately in one process, keeping the least of many short runs.
        bench [ROUNDS [K]]          compare, then time turns of K steps (default 300 rounds, K = 20000)
        bench IMPL PROGRAM STEPS    one turn and nothing else: for a profiler that counts instructions
-   The implementations are in impls.h: #define IMPLS X(name) .. , the first the reference (Rust), the second C by clang. */
+   The implementations are in impls.h: #define IMPLS X(name) .. , the first the reference (Rust), the second C by clang. Compile it with
+   -DUNMARKED where `before` is an earlier proved turn that keeps no lowest SP. */
 #include "programs.h"
 #include <math.h>
 #include <stdio.h>
@@ -77,6 +78,9 @@ static void damaged(int it) {
     uint32_t floor = 6 + regs0[R_G];
     if (any(3) == 0) regs0[R_SP] = floor + any(12);
     if (any(3) == 0) regs0[R_SP] = L - any(4);
+    /* the lowest SP so far: 6+G, SP, or between */
+    uint32_t deep = any(3);
+    regs0[R_LOW] = deep == 0 ? floor : deep == 1 ? regs0[R_SP] : floor + any(regs0[R_SP] - floor + 1);
     if (any(4) == 0) regs0[R_M] = 1 + any(L - 5);
     if (any(4) == 0) regs0[R_IPC] = 22 + any(w2 - 21);
     if (more && any(2)) regs0[R_IPC] = w2 - 1 - any(4);
@@ -87,18 +91,21 @@ static void damaged(int it) {
         if (i < 5 && any(8)) mem0[BASE + regs0[R_M] + i] = i == 3 ? 1 : i == 4 ? 1 + any(routines) : i == 2 ? 22 + any(w2 - 21) : 1 + any(L - 5);
     }
 }
+static int is_before(int i) { return !strcmp(IMPL[i].name, "before"); }
 static int same(int i, uint64_t done, const char *on, int it) {
+#ifdef UNMARKED
+    if (is_before(i)) regs[R_LOW] = want[R_LOW];
+#endif
     if (done == want_done && !memcmp(mem, want_mem, sizeof mem) && !memcmp(regs, want, sizeof regs)) return 1;
-    printf("%s differs from %s on %s %d: done %lu/%lu, fault %lu/%lu, place %lu/%lu, first byte %d\n", IMPL[i].name, IMPL[0].name, on, it,
+    printf("%s differs from %s on %s %d: done %lu/%lu, fault %lu/%lu, place %lu/%lu, lowest SP %lu/%lu, first byte %d\n", IMPL[i].name, IMPL[0].name, on, it,
         (unsigned long)done, (unsigned long)want_done, (unsigned long)regs[R_FAULT], (unsigned long)want[R_FAULT],
-        (unsigned long)regs[R_PLACE], (unsigned long)want[R_PLACE], seg[want[R_IPC]]);
+        (unsigned long)regs[R_PLACE], (unsigned long)want[R_PLACE], (unsigned long)regs[R_LOW], (unsigned long)want[R_LOW], seg[want[R_IPC]]);
     return 0;
 }
 static void keep(uint64_t done) { want_done = done; memcpy(want_mem, mem, sizeof mem); memcpy(want, regs, sizeof regs); }
 
 /* An earlier proved turn may not carry what a later program uses: there it is neither compared nor timed. */
 static int left_out[NI][PROGRAMS];
-static int is_before(int i) { return !strcmp(IMPL[i].name, "before"); }
 
 /* The programs, in seven turns of growing length: none of them ends or faults. */
 static int compare_programs(void) {
@@ -119,7 +126,7 @@ static int compare_programs(void) {
 }
 /* The reference goes step by step, to see which first bytes were run without a fault; the others go in one turn. An earlier proved turn is not among
    them: a request may have changed what it answers here. */
-static int compare_damaged(long *faults, long *stepped, long *cut) {
+static int compare_damaged(long *faults, long *stepped, long *cut, long *deeper) {
     int good = 1;
     for (int it = 0; it < DAMAGED && good; it++) {
         damaged(it);
@@ -133,6 +140,7 @@ static int compare_damaged(long *faults, long *stepped, long *cut) {
         keep(done);
         faults[regs[R_FAULT]]++;
         *cut += regs[R_FAULT] == 1 && regs[R_PLACE] != regs[R_IPC];
+        *deeper += regs[R_LOW] < regs0[R_LOW];
         for (int i = 0; i < NI && good; i++) {
             if (is_before(i)) continue;
             fresh();
@@ -143,11 +151,11 @@ static int compare_damaged(long *faults, long *stepped, long *cut) {
     return good;
 }
 static int compare(void) {
-    static long faults[11], stepped[256], cut;
+    static long faults[11], stepped[256], cut, deeper;
     int reached = 0, good = compare_programs();
-    good = compare_damaged(faults, stepped, &cut) && cut > 0 && good;
+    good = compare_damaged(faults, stepped, &cut, &deeper) && cut > 0 && deeper > 0 && deeper < DAMAGED && good;
     for (int op = 0; op < 256; op++) reached += stepped[op] > 0;
-    printf("agree: %s, on %d programs and %d damaged segments; %d first bytes run without a fault, %ld cut off; faults:", good ? "yes" : "NO", PROGRAMS, DAMAGED, reached, cut);
+    printf("agree: %s, on %d programs and %d damaged segments; %d first bytes run without a fault, %ld cut off, the lowest SP fell in %ld; faults:", good ? "yes" : "NO", PROGRAMS, DAMAGED, reached, cut, deeper);
     for (int f = 1; f < 11; f++) printf(" %d:%ld", f, faults[f]);
     puts("");
     return good;

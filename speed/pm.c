@@ -22,13 +22,14 @@ static __attribute__((noinline)) uint32_t push_block(uint16_t *reg, uint32_t sp,
 
 /* Operands: UB, B and W, fetched at `at`, which moves on, but stays on a byte that is not there. */
 #define UB(v) do { if (at >= w2) FAULT(1); v = seg[at++]; } while (0)
-#define BIG(v) do { UB(v); if (v & 128) { uint32_t low; UB(low); v = (v & 127) << 8 | low; } } while (0)
+#define BIG(v) do { UB(v); if (v & 128) { uint32_t second; UB(second); v = (v & 127) << 8 | second; } } while (0)
 #define WORD(v) do { uint32_t high; UB(v); UB(high); v |= high << 8; } while (0)
 #define DB(v) do { if (v > 127) FAULT(2); } while (0)
 
-/* The stack: words taken, and one word given. */
+/* The stack: words taken, and one word given. Where SP falls it may be the lowest reached. */
+#define FELL() do { if (sp < low) low = sp; } while (0)
 #define NEED(n) do { if (l - sp < (n)) FAULT(3); } while (0)
-#define PUSH(v) do { uint32_t word_ = (v); if (sp <= floor) FAULT(4); reg[--sp] = word_; } while (0)
+#define PUSH(v) do { uint32_t word_ = (v); if (sp <= floor) FAULT(4); reg[--sp] = word_; FELL(); } while (0)
 #define UNARY(e) do { NEED(1); uint16_t a = reg[sp]; reg[sp] = (e); } while (0)
 #define BINARY(e) do { NEED(2); uint16_t b = reg[sp], a = reg[sp + 1]; reg[++sp] = (e); } while (0)
 #define DIVIDE(e) do { NEED(2); int32_t b = (int16_t)reg[sp], a = (int16_t)reg[sp + 1]; if (b == 0) FAULT(5); reg[++sp] = (e); } while (0)
@@ -55,7 +56,7 @@ static __attribute__((noinline)) uint32_t push_block(uint16_t *reg, uint32_t sp,
         if (entry_ == 0) FAULT(8); /* declared, not linked */ \
         uint32_t size_ = seg_word(seg, entry_, most_first); \
         if (sp < floor + 5 + size_) FAULT(4); \
-        sp -= 5 + size_; \
+        sp -= 5 + size_; FELL(); \
         reg[sp] = (parent); reg[sp + 1] = m; reg[sp + 2] = at; reg[sp + 3] = 1; reg[sp + 4] = proc; \
         m = sp; proc = (k); at = 2 * (entry_ + 1); } while (0)
 
@@ -66,7 +67,7 @@ uint64_t TURN(uint16_t *mem, uint64_t nmem, const uint8_t *seg, uint64_t nseg, u
     const uint32_t pool = r[R_POOL], reals = r[R_REALS];
     const int most_first = r[R_SEX] != 0;
     uint16_t *const reg = mem + r[R_BASE];
-    uint32_t sp = r[R_SP], m = r[R_M], ipc = r[R_IPC], proc = r[R_PROC];
+    uint32_t sp = r[R_SP], m = r[R_M], ipc = r[R_IPC], proc = r[R_PROC], low = r[R_LOW];
     uint32_t at, x, db, rec, place, fault = 0;
     uint64_t done = 0;
 
@@ -91,7 +92,7 @@ uint64_t TURN(uint16_t *mem, uint64_t nmem, const uint8_t *seg, uint64_t nseg, u
             x += pool;
             if (pool == 0 || (count > 0 && x + count > reals)) FAULT(6);
             if (sp < floor + count) FAULT(4);
-            sp = push_block(reg, sp, seg + 2 * x, count, mode == 2 && most_first);
+            sp = push_block(reg, sp, seg + 2 * x, count, mode == 2 && most_first); FELL();
             break;
         }
         case 132: BIG(x); ADDRESS(m, x); break;                                /* LLA */
@@ -115,6 +116,7 @@ uint64_t TURN(uint16_t *mem, uint64_t nmem, const uint8_t *seg, uint64_t nseg, u
             if (dyn < 1 || dyn > l - 5 || caller < 1 || caller > n || endv != 1) FAULT(9);
             if (back < 22 || back > w2 || to < floor || to > l) FAULT(9);
             sp = to; m = dyn; at = back; proc = caller;
+            FELL(); /* a forged mark can lead down */
             break;
         }
         case 152: PUSH(0); break;                                              /* LDCN */
@@ -144,8 +146,8 @@ uint64_t TURN(uint16_t *mem, uint64_t nmem, const uint8_t *seg, uint64_t nseg, u
         }
         case 203: {                                                            /* CHK */
             NEED(3);
-            int16_t high = reg[sp], low = reg[sp + 1], v = reg[sp + 2];
-            if (v < low || v > high) FAULT(10);
+            int16_t most = reg[sp], least = reg[sp + 1], v = reg[sp + 2];
+            if (v < least || v > most) FAULT(10);
             sp += 2;
             break;
         }
@@ -186,6 +188,6 @@ faulted:
     /* the place is the instruction's first byte, but of fault 1 the byte that was not there: chosen here, so that no other step pays for it */
     r[R_KIND] = FAULTED; r[R_FAULT] = fault; r[R_PLACE] = fault == 1 ? at : ipc;
 out:
-    r[R_SP] = sp; r[R_M] = m; r[R_IPC] = ipc; r[R_PROC] = proc;
+    r[R_SP] = sp; r[R_M] = m; r[R_IPC] = ipc; r[R_PROC] = proc; r[R_LOW] = low;
     return done;
 }

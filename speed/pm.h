@@ -7,10 +7,10 @@
 /* Numbers of `regs`. What the caller sets, once: where the region starts in memory, L, S, the segment's bytes 2W,
    D, n, G (DATASIZE of routine 1), byte sex (0 least first, 1 most first), the pool pointer (0: no pool) and the word where the real
    pool starts (W where the pool has none, 0 with no pool): from there on no word of the pool is read.
-   What a turn reads and writes: SP, M, the counter, the routine number, the kind, and a fault with its place. */
+   What a turn reads and writes: SP, M, the counter, the routine number, the lowest SP reached, the kind, and a fault with its place. */
 enum {
     R_BASE, R_L, R_S, R_W2, R_D, R_N, R_G, R_SEX,
-    R_SP, R_M, R_IPC, R_PROC, R_KIND, R_FAULT, R_PLACE,
+    R_SP, R_M, R_IPC, R_PROC, R_LOW, R_KIND, R_FAULT, R_PLACE,
     R_POOL, R_REALS, R_COUNT
 };
 enum { READY, FINISHED, FAULTED };

@@ -50,7 +50,7 @@ static void session(uint32_t globals) {
     put(7, pool);
     memset(mem0, 0, sizeof mem0);
     for (uint32_t i = 0; i < S; i++) mem0[i] = i * 2654435761u >> 7;
-    const uint64_t r[R_COUNT] = { BASE, L, S, w2, dict, routines, globals, most_first, L, 1, 2 * (entry[1] + 1), 1, READY, 0, 0,
+    const uint64_t r[R_COUNT] = { BASE, L, S, w2, dict, routines, globals, most_first, L, 1, 2 * (entry[1] + 1), 1, L, READY, 0, 0,
         pool, reals() };
     memcpy(regs0, r, sizeof r);
 }

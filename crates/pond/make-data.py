@@ -56,11 +56,12 @@ SUM = program(
     (4, bytes([0, SRO, 1, 10, SRO, 2] + [SLDO1, SLDO2, ADI, SRO, 1, SLDO2, DECI, SRO, 2, SLDO2, 0, NEQI, TJP, 256 - 14] +
               [0, 7, SBI, SRO, 2, CPG, 2, RPU, 0])),
     (1, bytes([21, SSTL1, SLDL1, SLDL1, ADI, SRO, 4, RPU, 1])))
-# shared word 2 to global 1, in 4 steps; a division by zero in step 3; a loop without end; 900 globals
+# shared word 2 to global 1, in 4 steps; a division by zero in step 3; a loop without end; 900 globals; 10 globals, and one word on the stack
 READS = program((1, bytes([LDCI, 2, 128, SIND0, SRO, 1, RPU, 0])))
 DIVIDES = program((0, bytes([5, 0, DVI, RPU, 0])))
 LOOPS = program((0, bytes([UJP, 256 - 2, RPU, 0])))
 WIDE = program((900, bytes([7, SRO, 0x83, 0x84, RPU, 0])))
+TEN = program((10, bytes([5, SRO, 1, RPU, 0])))
 
 # a call of routine 2, which is not linked: with room, with a full stack, and through a broken link
 def unlinked(*code):
@@ -128,7 +129,7 @@ FILES = {
     'order2': put(sex(0, 0), (RELOC, 1)), 'order3': small((RELOC, 1), (POOL, 10), (DICT, 10)), 'order4': small((POOL, 10), (DICT, 10)),
     'same': many(20, 11, [15, 15]), 'shares': small((12, 12)),
     'inside': put(SMALL[:22].ljust(80, b'\0'), (DICT, 12), (12, 22), *[(w, 13) for w in range(13, 35)]),
-    'sum': SUM, 'reads': READS, 'divides': DIVIDES, 'loops': LOOPS, 'wide': WIDE, 'outside': OUTSIDE,
+    'sum': SUM, 'reads': READS, 'divides': DIVIDES, 'loops': LOOPS, 'wide': WIDE, 'ten': TEN, 'outside': OUTSIDE,
     'name': SMALL[:4] + b'A\tB\x1b\x7f\x80\xff~' + SMALL[12:],
 }
 

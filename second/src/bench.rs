@@ -44,7 +44,7 @@ impl Record {
         slot: 0,
         base: 0,
         length: 0,
-        session: Session { sp: 0, m: 0, counter: 0, routine: 0, kind: Kind::Ready },
+        session: Session { sp: 0, m: 0, counter: 0, routine: 0, low: 0, kind: Kind::Ready },
     };
 
     /// The word after the region, if such a number can be.
@@ -140,7 +140,8 @@ fn regions_are_apart(bench: &Bench) -> bool {
 /// "every open session names a loaded slot, has L in 16..32,768, 6+G at most
 /// L, stack pointer in 6+G..L, record pointer in 1..L-5, counter in 22..2W,
 /// routine number in 1..n and, if faulted, fault in 1..10 and place in 22..2W.
-/// G is DATASIZE of its routine 1."
+/// G is DATASIZE of its routine 1."  Request 3 of 02: "A sound bench now also
+/// has this mark in 6+G..SP", the lowest SP reached.
 fn session_is_good(bench: &Bench, store: &[u8], record: &Record) -> bool {
     let Some(slot) = loaded_slot(bench, record.slot) else {
         return false;
@@ -155,6 +156,7 @@ fn session_is_good(bench: &Bench, store: &[u8], record: &Record) -> bool {
     (16..=32_768).contains(&length)
         && floor <= length
         && (floor..=length).contains(&session.sp)
+        && (floor..=session.sp).contains(&session.low)
         && (1..=length - 5).contains(&session.m)
         && (22..=bytes).contains(&session.counter)
         && (1..=u64::from(segment.count())).contains(&session.routine)

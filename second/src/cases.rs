@@ -32,10 +32,11 @@ fn kind_numbers(kind: Kind) -> [u64; 3] {
     }
 }
 
-/// SP M COUNTER ROUTINE KIND FAULT PLACE
-fn session_numbers(session: &Session) -> [u64; 7] {
-    let [kind, fault, place] = kind_numbers(session.kind);
-    [session.sp, session.m, session.counter, session.routine, kind, fault, place]
+/// SP M COUNTER ROUTINE LOW KIND FAULT PLACE
+fn session_numbers(session: &Session) -> [u64; 8] {
+    let Session { sp, m, counter, routine, low, kind } = *session;
+    let [kind, fault, place] = kind_numbers(kind);
+    [sp, m, counter, routine, low, kind, fault, place]
 }
 
 /// USED SLOT BASE LENGTH
@@ -44,7 +45,7 @@ fn region_numbers(record: &Record) -> [u64; 4] {
 }
 
 /// "BENCH is of N, S, then of each slot LOADED START LENGTH, then of each
-/// record USED SLOT BASE LENGTH SP M COUNTER ROUTINE KIND FAULT PLACE"; "a
+/// record USED SLOT BASE LENGTH SP M COUNTER ROUTINE LOW KIND FAULT PLACE"; "a
 /// number of the bench is taken as two, its lower and then its upper 32 bits."
 fn bench_digest(bench: &Bench) -> u64 {
     let slots = bench.slots.iter().flat_map(|slot| [u64::from(slot.loaded), slot.start, slot.length]);
@@ -162,8 +163,8 @@ fn field_lines(old: &Bench, new: &Bench) -> String {
             line("e", &[number, used, slot, base, length]);
         }
         if old.session != new.session {
-            let [sp, m, counter, routine, kind, fault, place] = session_numbers(&new.session);
-            line("r", &[number, sp, m, counter, routine, kind, fault, place]);
+            let [sp, m, counter, routine, low, kind, fault, place] = session_numbers(&new.session);
+            line("r", &[number, sp, m, counter, routine, low, kind, fault, place]);
         }
     }
     text

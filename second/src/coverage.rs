@@ -2,6 +2,7 @@
 //! by entry, damages; and what is missing of what document 01 makes possible.
 
 use crate::cut;
+use crate::depth;
 use crate::generate::{
     can_go_well, possible_outcomes, possible_refusals, Outcome, BACK_TO_UNLINKED, FINISHED, GONE_ON,
     LINK_BEFORE_UNLINKED, UNLINKED, UNLINKED_WHEN_FULL,
@@ -18,7 +19,8 @@ pub struct Coverage {
     pub cases: u64,
     pub requests: u64,
     pub steps_done: u64,
-    /// Turns of one step, by first byte and what the step came to.
+    /// Turns of one step, by first byte and what the step came to; and, from
+    /// `depth::DEPTH` on, what became of the lowest SP.
     pub steps: BTreeMap<Outcome, usize>,
     /// Turns of one step in a routine that is unlinked.
     pub in_unlinked: usize,
@@ -47,6 +49,20 @@ pub struct AboutTo {
     cut: u32,
     /// An LDC or XJP.
     pool: Option<pool::Met>,
+    depth: Option<depth::Met>,
+}
+
+/// The pairs that a step counts for.
+#[derive(Clone, Copy, Debug, PartialEq, Eq)]
+pub struct Came {
+    pub outcome: Outcome,
+    pub depth: Option<Outcome>,
+}
+
+impl Came {
+    pub fn counts_for(&self, outcome: Outcome) -> bool {
+        self.outcome == outcome || self.depth == Some(outcome)
+    }
 }
 
 /// Whether a number is that of an unlinked routine.
@@ -57,7 +73,8 @@ fn is_unlinked(segment: &Segment, number: u64) -> bool {
 impl AboutTo {
     pub fn meet(segment: &Segment, session: &Session, region: &[u16]) -> AboutTo {
         let counter = usize::try_from(session.counter).unwrap_or(usize::MAX);
-        let called = machine::decode(segment, session.counter).ok().filter(|decoded| {
+        let decoded = machine::decode(segment, session.counter).ok();
+        let called = decoded.filter(|decoded| {
             matches!(
                 decoded.instruction.op,
                 Op::CallLocal | Op::CallGlobal | Op::CallIntermediate
@@ -70,11 +87,12 @@ impl AboutTo {
             in_unlinked: is_unlinked(segment, session.routine),
             cut: cut::counted(segment, session.counter),
             pool: pool::Met::meet(segment, session, region),
+            depth: depth::Met::meet(segment, session, decoded.as_ref()),
         }
     }
 
     /// What the step came to, by the session after it.
-    pub fn outcome(&self, segment: &Segment, session: &Session) -> Outcome {
+    pub fn came(&self, segment: &Segment, session: &Session) -> Came {
         let end = match came_to(session.kind) {
             1 => self.cut,
             8 if self.calls_unlinked && self.full => UNLINKED_WHEN_FULL,
@@ -85,7 +103,8 @@ impl AboutTo {
             }
             end => self.pool.map_or(end, |met| met.counted(end)),
         };
-        (self.first, end)
+        let depth = self.depth.and_then(|met| met.counted(session));
+        Came { outcome: (self.first, end), depth }
     }
 }
 
@@ -138,7 +157,10 @@ impl Coverage {
         let segment = world.segment_bytes(record.slot).and_then(|bytes| Segment::judge(bytes).ok());
         match (about_to, segment) {
             (Some(met), Some(segment)) => {
-                *self.steps.entry(met.outcome(&segment, &record.session)).or_default() += 1;
+                let Came { outcome, depth } = met.came(&segment, &record.session);
+                for outcome in [Some(outcome), depth].into_iter().flatten() {
+                    *self.steps.entry(outcome).or_default() += 1;
+                }
                 self.in_unlinked += usize::from(met.in_unlinked);
             }
             _ => *self.run_ends.entry(came_to(record.session.kind)).or_default() += 1,
@@ -244,6 +266,7 @@ fn end_name(end: u32) -> String {
         LINK_BEFORE_UNLINKED => "9 before unlinked".to_string(),
         BACK_TO_UNLINKED => "ok back to unlinked".to_string(),
         cut::CUT..=cut::LAST_CUT => cut::name(end),
+        depth::DEPTH.. => depth::name(end).to_string(),
         pool::POOL.. => pool::name(end).to_string(),
         fault => format!("{fault}"),
     }

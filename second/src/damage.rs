@@ -12,7 +12,7 @@ use crate::world::World;
 const WIDE: u64 = 1 << 32;
 
 /// The damages, in the order of 01's sentence.
-pub const DAMAGES: [&str; 46] = [
+pub const DAMAGES: [&str; 50] = [
     "S just at a limit", "S beyond 32,768", "S beyond N", "N beyond 1,048,576",
     "N not the memory's words", "memory one word short", "memory one word long",
     "slot range to the store's end", "slot range beyond the store", "slot start far beyond",
@@ -21,7 +21,8 @@ pub const DAMAGES: [&str; 46] = [
     "pool pointer outside", "pool's first word zero", "pool's first word at its limit", "pool's first word beyond",
     "region below S", "region at N", "region beyond N", "region far beyond", "regions touch", "regions overlap",
     "slot named is 16 or more", "slot named not loaded", "L below 16", "L at 32,768",
-    "L above 32,768", "L below 6+G", "SP at a limit", "SP outside", "M at a limit", "M outside",
+    "L above 32,768", "L below 6+G", "SP at a limit", "SP outside",
+    "lowest SP at a limit", "lowest SP between", "lowest SP outside", "SP below the lowest SP", "M at a limit", "M outside",
     "counter at a limit", "counter outside", "routine at a limit", "routine outside",
     "fault and place at a limit", "fault 1 as recorded before", "fault outside 1..10", "place outside 22..2W",
 ];
@@ -61,6 +62,7 @@ pub fn damage(rng: &mut Rng, world: &mut World, kind: &str) -> Option<bool> {
         .or_else(|| damage_region(rng, world, kind, &target))
         .or_else(|| damage_length(rng, world, kind, &target))
         .or_else(|| damage_session(rng, world, kind, &target))
+        .or_else(|| damage_low(rng, world, kind, &target))
         .or_else(|| damage_fault(rng, world, kind, &target))
 }
 
@@ -143,20 +145,17 @@ fn damage_sizes(rng: &mut Rng, world: &mut World, kind: &str, target: &Target) -
 
 /// The range of the slot that the session names, and the segment in it.
 fn damage_slots(rng: &mut Rng, world: &mut World, kind: &str, target: &Target) -> Option<bool> {
-    let copy = world.segment_bytes(target.record.slot)?.to_vec();
     let end = world.store.len() as u64;
+    let moved = match kind {
+        "slot range to the store's end" => copy_to_the_end(world, target, 0)?,
+        "slot range beyond the store" => copy_to_the_end(world, target, 1)?,
+        _ => target.slot.start,
+    };
     let slot = world.bench.slots.get_mut(target.record.slot as usize)?;
+    slot.start = moved;
     match kind {
-        "slot range to the store's end" => {
-            slot.start = end;
-            world.store.extend(copy);
-            return Some(true);
-        }
-        "slot range beyond the store" => {
-            slot.start = end;
-            world.store.extend(copy);
-            world.store.pop();
-        }
+        "slot range to the store's end" => return Some(true),
+        "slot range beyond the store" => {}
         "slot start far beyond" => {
             slot.start =
                 rng.pick(&[u64::MAX, u64::MAX - slot.length, 0u64.wrapping_sub(slot.length), end + 2, WIDE], WIDE);
@@ -178,12 +177,34 @@ fn damage_slots(rng: &mut Rng, world: &mut World, kind: &str, target: &Target) -
     Some(false)
 }
 
-/// A copy of the segment that the session names, in a slot that none names.
-fn copy_in_another_slot(world: &mut World, target: &Target) -> Option<Slot> {
-    let copy = world.segment_bytes(target.record.slot)?.to_vec();
-    let slot = world.bench.slots.iter_mut().find(|slot| !slot.loaded)?;
-    *slot = Slot { loaded: true, start: world.store.len() as u64, length: target.slot.length };
+/// Bytes that no slot has are put at the store's end, so that copies of segments
+/// do not make it longer.
+pub fn with_room_for_a_copy(mut world: World) -> World {
+    let longest = world.bench.slots.iter().map(|slot| slot.length).max().unwrap_or(0);
+    world.store.resize(world.store.len() + longest as usize, 0);
+    world
+}
+
+/// A copy of the segment that the session names at the store's end, but for its
+/// last bytes: where no slot has the bytes there over them, else behind them.
+/// Gives its first byte.
+fn copy_to_the_end(world: &mut World, target: &Target, but: usize) -> Option<u64> {
+    let mut copy = world.segment_bytes(target.record.slot)?.to_vec();
+    copy.truncate(copy.len().checked_sub(but)?);
+    let used = world.bench.slots.iter().filter(|slot| slot.loaded).map(|slot| slot.start + slot.length);
+    let used = used.max().unwrap_or(0) as usize;
+    let start = world.store.len().checked_sub(copy.len()).filter(|start| *start >= used);
+    world.store.truncate(start.unwrap_or(world.store.len()));
+    let start = world.store.len();
     world.store.extend(copy);
+    Some(start as u64)
+}
+
+/// The same in a slot that no session names.
+fn copy_in_another_slot(world: &mut World, target: &Target) -> Option<Slot> {
+    let start = copy_to_the_end(world, target, 0)?;
+    let slot = world.bench.slots.iter_mut().find(|slot| !slot.loaded)?;
+    *slot = Slot { loaded: true, start, length: target.slot.length };
     Some(*slot)
 }
 
@@ -214,6 +235,9 @@ fn damage_pool(rng: &mut Rng, world: &mut World, kind: &str, target: &Target) ->
 /// Entries of the segment that the session names, or of a copy: "An entry of
 /// zero is lawful for every routine but routine 1", in soundness too.
 fn damage_entries(rng: &mut Rng, world: &mut World, kind: &str, target: &Target) -> Option<bool> {
+    if !kind.contains("unlinked") && !kind.starts_with("a bad entry") && kind != "an entry beside zero" {
+        return None;
+    }
     let its_own = kind == "session in an unlinked routine" || rng.chance(1, 2);
     let slot = if its_own { target.slot } else { copy_in_another_slot(world, target)? };
     let bytes = world.store.get_mut(slot.start as usize..(slot.start + slot.length) as usize)?;
@@ -315,6 +339,7 @@ fn damage_length(rng: &mut Rng, world: &mut World, kind: &str, target: &Target) 
         _ => return None,
     }
     field.session.sp = field.length;
+    field.session.low = target.floor.min(field.length);
     field.session.m = 1;
     Some(false)
 }
@@ -330,9 +355,13 @@ fn damage_session(rng: &mut Rng, world: &mut World, kind: &str, target: &Target)
             let named = target.record.slot;
             field.slot = rng.pick(&[16, 17, 255, 256 + named, WIDE + named, u64::MAX], 16);
         }
-        "SP at a limit" => session.sp = rng.pick(&[floor, length], length),
+        "SP at a limit" => {
+            session.sp = rng.pick(&[floor, length], length);
+            session.low = session.low.min(session.sp);
+        }
         "SP outside" => {
             session.sp = rng.pick(&[floor - 1, length + 1, 0, WIDE + floor, u64::MAX], 0);
+            session.low = session.low.min(session.sp);
         }
         "M at a limit" => session.m = rng.pick(&[1, length - 5], 1),
         "M outside" => session.m = rng.pick(&[0, length - 4, length, WIDE + 1, u64::MAX], 0),
@@ -347,6 +376,34 @@ fn damage_session(rng: &mut Rng, world: &mut World, kind: &str, target: &Target)
         _ => return None,
     }
     Some(kind.ends_with("at a limit"))
+}
+
+/// The lowest SP, in a session of any kind: "A sound bench now also has this
+/// mark in 6+G..SP."
+fn damage_low(rng: &mut Rng, world: &mut World, kind: &str, target: &Target) -> Option<bool> {
+    if !kind.contains("lowest SP") {
+        return None;
+    }
+    let (floor, length) = (target.floor, target.record.length);
+    let session = &mut world.bench.records.get_mut(target.number)?.session;
+    let sp = session.sp;
+    session.kind = rng.pick(
+        &[session.kind, Kind::Ready, Kind::Finished, Kind::Faulted { number: 4, place: 22 }],
+        Kind::Ready,
+    );
+    match kind {
+        "lowest SP at a limit" => session.low = rng.pick(&[floor, sp], sp),
+        "lowest SP between" => session.low = rng.between(floor as i64, sp as i64) as u64,
+        "lowest SP outside" => {
+            let beyond = [floor - 1, sp + 1, length + 1, 0, WIDE + floor, WIDE + sp, WIDE - 1, u64::MAX];
+            session.low = rng.pick(&beyond, 0);
+        }
+        _ => {
+            session.low = rng.between(floor as i64 + 1, length as i64) as u64;
+            session.sp = rng.pick(&[session.low - 1, floor], floor);
+        }
+    }
+    Some(matches!(kind, "lowest SP at a limit" | "lowest SP between"))
 }
 
 /// Fault and place of a faulted session.

@@ -76,8 +76,8 @@ fn set_up(letter: &str, numbers: &[u64]) -> Option<String> {
         ("e", [record, _, slot, base, length]) => {
             format!("session {record} open on slot {slot}: L = {length}, words from {base}")
         }
-        ("r", [record, sp, m, counter, routine, k, fault, place]) => format!(
-            "session {record}: SP {sp}, M {m}, counter {counter}, routine {routine}, {}",
+        ("r", [record, sp, m, counter, routine, low, k, fault, place]) => format!(
+            "session {record}: SP {sp}, M {m}, counter {counter}, routine {routine}, lowest SP {low}, {}",
             kind(*k, *fault, *place)
         ),
         _ => return None,
@@ -106,8 +106,8 @@ fn answer(letter: &str, numbers: &[u64]) -> Option<String> {
             format!("= refused {refusal}, place {place}")
         }
         ("d", [value, _, _]) => format!("= done, {value}"),
-        ("d", [value, sp, m, counter, routine, k, fault, place, _, _]) => format!(
-            "= {value} steps: SP {sp}, M {m}, counter {counter}, routine {routine}, {}",
+        ("d", [value, sp, m, counter, routine, low, k, fault, place, _, _]) => format!(
+            "= {value} steps: SP {sp}, M {m}, counter {counter}, routine {routine}, lowest SP {low}, {}",
             kind(*k, *fault, *place)
         ),
         ("a", [_]) => "= turned".to_string(),

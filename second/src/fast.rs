@@ -21,13 +21,14 @@ pub struct Code<'a> {
     pub most_first: bool,
 }
 
-/// SP, M, the counter and the current routine number.
+/// SP, M, the counter, the current routine number and the lowest SP reached.
 #[derive(Clone, Copy, Debug)]
 pub struct Registers {
     pub sp: usize,
     pub m: usize,
     pub counter: usize,
     pub routine: usize,
+    pub low: usize,
 }
 
 /// How a run ended.
@@ -49,17 +50,7 @@ pub fn turn(
     if k == 0 || session.kind != Kind::Ready {
         return 0;
     }
-    // What the loop leans on; soundness gives it.  Without it the slow form
-    // answers.
-    let length = region.len() as u64;
-    let floor = 6 + u64::from(segment.global_size());
-    let good = (16..=32_768).contains(&length)
-        && shared.len() <= 32_768
-        && (floor..=length).contains(&session.sp)
-        && (1..=length - 5).contains(&session.m)
-        && (22..=segment.bytes.len() as u64).contains(&session.counter)
-        && (1..=u64::from(segment.count())).contains(&session.routine);
-    if !good {
+    if shared.len() > 32_768 || !is_good(segment, region.len() as u64, session) {
         return machine::turn(segment, shared, region, session, k);
     }
     let code = Code {
@@ -76,6 +67,7 @@ pub fn turn(
         m: session.m as usize,
         counter: session.counter as usize,
         routine: session.routine as usize,
+        low: session.low as usize,
     };
     let (done, end) = run(&code, shared, region, &mut registers, k);
     *session = Session {
@@ -83,6 +75,7 @@ pub fn turn(
         m: registers.m as u64,
         counter: registers.counter as u64,
         routine: registers.routine as u64,
+        low: registers.low as u64,
         kind: match end {
             End::OutOfSteps => Kind::Ready,
             End::Finished => Kind::Finished,
@@ -90,6 +83,18 @@ pub fn turn(
         },
     };
     done
+}
+
+/// What the loop leans on; soundness gives it.  Without it the slow form
+/// answers.
+fn is_good(segment: &Segment, length: u64, session: &Session) -> bool {
+    let floor = 6 + u64::from(segment.global_size());
+    (16..=32_768).contains(&length)
+        && (floor..=length).contains(&session.sp)
+        && (1..=length - 5).contains(&session.m)
+        && (22..=segment.bytes.len() as u64).contains(&session.counter)
+        && (1..=u64::from(segment.count())).contains(&session.routine)
+        && (floor..=session.sp).contains(&session.low)
 }
 
 /// Word `number` of the segment, in its own sex.
@@ -115,7 +120,7 @@ pub fn run(
     let words = code.len() / 2;
     let (pool, real_start) = (segment.pool, segment.real_start);
     let top_link = length - 5;
-    let Registers { mut sp, mut m, mut counter, mut routine } = *registers;
+    let Registers { mut sp, mut m, mut counter, mut routine, mut low } = *registers;
     let mut left = k;
 
     // `counter` stays on the first byte until the step is known to go well;
@@ -157,8 +162,8 @@ pub fn run(
         }
         macro_rules! word {
             () => {{
-                let low = byte!();
-                low + 256 * byte!()
+                let first = byte!();
+                first + 256 * byte!()
             }};
         }
         // 3
@@ -205,6 +210,7 @@ pub fn run(
                     fault!(4)
                 }
                 sp -= 1;
+                low = low.min(sp);
                 region[sp] = word;
             }};
         }
@@ -267,6 +273,7 @@ pub fn run(
                     fault!(if entry == 0 { 8 } else { 4 })
                 }
                 sp -= needed;
+                low = low.min(sp);
                 region[sp] = $parent as u16;
                 region[sp + 1] = m as u16;
                 region[sp + 2] = next as u16;
@@ -334,6 +341,7 @@ pub fn run(
                     sp -= 1;
                     region[sp] = if swapped { word.swap_bytes() } else { word };
                 }
+                low = low.min(sp);
             }
             132 => {
                 let address = private!(m + 4 + big!());
@@ -425,6 +433,8 @@ pub fn run(
                 routine = caller;
                 next = back;
                 sp = new_sp;
+                // lower only where the record pointer or its mark was forged
+                low = low.min(sp);
             }
             152 => push!(0),
             156 => {}
@@ -552,6 +562,6 @@ pub fn run(
         counter = next;
     };
 
-    *registers = Registers { sp, m, counter, routine };
+    *registers = Registers { sp, m, counter, routine, low };
     (k - left, end)
 }

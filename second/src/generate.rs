@@ -6,6 +6,7 @@
 
 use crate::bench::{self, Bench, Record, Slot};
 use crate::cut::possible_cuts;
+use crate::depth;
 use crate::damage::{damage, DAMAGES, LARGE};
 use crate::machine::{self, Form, Kind, Op, Session};
 use crate::pool::{self, Pool};
@@ -762,11 +763,14 @@ pub fn registers(rng: &mut Rng, segment: &Segment, length: i64) -> Session {
         floor,
         length,
     );
+    // as often at SP as below it, down to its limit
+    let low = rng.pick_in(&[sp, sp, sp, sp, sp - 1, sp - 2, floor, floor + 1], floor, sp);
     Session {
         sp: sp as u64,
         m: m as u64,
         counter: rng.between(22, 2 * i64::from(segment.words)) as u64,
         routine: rng.between(1, i64::from(segment.count())) as u64,
+        low: low as u64,
         kind: Kind::Ready,
     }
 }
@@ -1018,7 +1022,7 @@ pub fn can_go_well(first: u8) -> bool {
 
 /// What one step came to: a fault number, 0 for gone on, 11 for finished.  From
 /// 16 on it is fault 1 of a cut instruction (`cut`), from 32 on what LDC and XJP
-/// came to (`pool`).
+/// came to (`pool`), from 96 on what became of the lowest SP (`depth`).
 pub const GONE_ON: u32 = 0;
 pub const FINISHED: u32 = 11;
 // Told apart from the faults 8 and 9 and from gone on, since unlinked routines
@@ -1036,6 +1040,7 @@ pub type Outcome = (Option<u8>, u32);
 pub fn possible_outcomes() -> Vec<Outcome> {
     let mut possible = vec![(None, 1)];
     for first in 0..=255u8 {
+        possible.extend(depth::possible(first));
         if matches!(first, 131 | 214) {
             possible.extend(pool::possible(first).into_iter().chain(possible_cuts(first)));
             continue;
@@ -1137,6 +1142,7 @@ pub fn sound_bench(rng: &mut Rng) -> World {
             let _ = ask(&mut case, Call::Close { session });
         }
     }
+    depth::deepen(rng, &mut case);
     case
 }
 

@@ -8,6 +8,7 @@ mod benches;
 mod case_jump;
 mod constants;
 mod cut;
+mod depth;
 mod instructions;
 mod marked;
 mod pool;
@@ -49,6 +50,7 @@ pub fn table() -> Vec<Hand> {
     pool::fill(&mut table);
     constants::fill(&mut table);
     case_jump::fill(&mut table);
+    depth::fill(&mut table);
     table.cases
 }
 
@@ -141,9 +143,16 @@ impl Story<'_> {
         self
     }
 
-    /// An entry that answers with a value and changes the world so.
+    /// An entry that answers with a value and changes the world so.  For a turn
+    /// `change` tells the lowest SP of that turn; one that an earlier turn
+    /// reached stays, if it is lower (request 3 of 02).
     fn goes(mut self, call: Call, value: u64, change: impl FnOnce(&mut World)) -> Self {
+        let before = self.now.bench.records;
         change(&mut self.now);
+        if let Call::Turn { session, .. } = call {
+            let low = &mut self.now.bench.records[session as usize].session.low;
+            *low = before[session as usize].session.low.min(*low);
+        }
         self.asks(Request::Entry(call), Answer::Done(value))
     }
 
@@ -231,8 +240,19 @@ fn routine(entry: u32, data_size: u32, exit_ic: u32, start: u32) -> Routine {
     Routine { entry, data_size, exit_ic, start }
 }
 
+/// A ready session that was never deeper than it is.
 fn ready(sp: u64, m: u64, counter: u64, routine: u64) -> Session {
-    Session { sp, m, counter, routine, kind: Kind::Ready }
+    Session { sp, m, counter, routine, low: sp, kind: Kind::Ready }
+}
+
+/// A session that was deeper than it is: the lowest SP is this.
+fn down_to(low: u64, session: Session) -> Session {
+    Session { low, ..session }
+}
+
+/// SP, and the lowest SP with it.
+fn set_sp(record: &mut Record, sp: u64) {
+    (record.session.sp, record.session.low) = (sp, sp);
 }
 
 fn at_slot(world: &mut World, number: usize) -> &mut Slot {
@@ -297,9 +317,16 @@ impl<'a> Rig<'a> {
         self
     }
 
-    /// SP moved; the words stay.
+    /// SP moved, and the lowest SP with it; the words stay.
     fn with_sp(mut self, sp: u64) -> Self {
         self.session().sp = sp;
+        self.session().low = sp;
+        self
+    }
+
+    /// A session that was deeper before.
+    fn with_low(mut self, low: u64) -> Self {
+        self.session().low = low;
         self
     }
 
@@ -398,7 +425,7 @@ impl<'a> Rig<'a> {
     /// and no other register but the counter changes.
     fn leaves(mut self, stack_top_first: &[u16], counter: u64) {
         let sp = 40 - stack_top_first.len();
-        let session = Session { sp: sp as u64, counter, ..*self.session() };
+        let session = Session { sp: sp as u64, low: sp as u64, counter, ..*self.session() };
         self.writes(sp, stack_top_first).becomes(&format!("leaves {stack_top_first:?}"), session);
     }
 

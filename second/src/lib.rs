@@ -11,6 +11,7 @@ pub mod cases;
 pub mod coverage;
 pub mod cut;
 pub mod damage;
+pub mod depth;
 pub mod explain;
 pub mod fast;
 pub mod generate;

@@ -15,13 +15,17 @@ pub enum Kind {
 }
 
 /// "A session's registers are SP, M, the counter and the current routine
-/// number."  Any numbers at all until soundness has judged them.
+/// number."  Request 3 of 02: "The session record shall keep the lowest stack
+/// pointer reached since opening".  Any numbers at all until soundness has
+/// judged them.
 #[derive(Clone, Copy, Debug, PartialEq, Eq)]
 pub struct Session {
     pub sp: u64,
     pub m: u64,
     pub counter: u64,
     pub routine: u64,
+    /// The lowest SP reached since opening.
+    pub low: u64,
     pub kind: Kind,
 }
 
@@ -66,13 +70,14 @@ impl From<Missing> for Faulting {
 }
 
 /// "Starting state: SP = L, record pointer M = 1, counter 2(e+1)", and
-/// opening "starts routine 1".
+/// opening "starts routine 1".  Request 3 of 02: "L at the start".
 pub fn starting_state(segment: &Segment, length: u64) -> Session {
     Session {
         sp: length,
         m: 1,
         counter: segment.routine(1).map_or(0, |routine| u64::from(routine.start)),
         routine: 1,
+        low: length,
         kind: Kind::Ready,
     }
 }
@@ -759,6 +764,8 @@ pub fn transition(view: &View) -> Result<Transition, Faulting> {
 
 /// One step of a ready session.  On a fault "only the session's kind changes":
 /// the counter stays on the instruction, also where fault 1 has another place.
+/// Request 3 of 02: "A step that faults doesn't move" the lowest SP; nor does
+/// the return that finishes, with which "all registers and memory stay".
 pub fn step(segment: &Segment, shared: &[u16], region: &mut [u16], session: &mut Session) {
     let view = View { segment, shared, region, session: *session };
     match transition(&view) {
@@ -771,6 +778,7 @@ pub fn step(segment: &Segment, shared: &[u16], region: &mut [u16], session: &mut
                 }
             }
             session.sp = change.sp as u64;
+            session.low = session.low.min(session.sp);
             session.m = change.m;
             session.counter = change.counter;
             session.routine = change.routine;

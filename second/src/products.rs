@@ -31,7 +31,7 @@ pub fn cases() -> impl Iterator<Item = (u16, World)> {
 /// The session at its start, but for the word in turn.
 fn opened(segment: &[u8], first: u16) -> World {
     let length = LENGTH as u64;
-    let session = Session { sp: length, m: 1, counter: 30, routine: 1, kind: Kind::Ready };
+    let session = Session { sp: length, m: 1, counter: 30, routine: 1, low: length, kind: Kind::Ready };
     let mut bench = blank_bench();
     bench.words = length;
     bench.slots[0] = Slot { loaded: true, start: 0, length: segment.len() as u64 };

@@ -61,15 +61,15 @@ impl Reader {
                     (place.base, place.length) = (*base, *length);
                 }
             }
-            ("r", [record, sp, m, counter, routine, kind, fault, place]) => {
+            ("r", [record, sp, m, counter, routine, low, kind, fault, place]) => {
                 let kind = match kind {
                     0 => Kind::Ready,
                     1 => Kind::Finished,
                     _ => Kind::Faulted { number: *fault as u8, place: *place },
                 };
-                let session = Session { sp: *sp, m: *m, counter: *counter, routine: *routine, kind };
                 if let Some(place) = bench.records.get_mut(*record as usize) {
-                    place.session = session;
+                    let (sp, m, counter, routine) = (*sp, *m, *counter, *routine);
+                    place.session = Session { sp, m, counter, routine, low: *low, kind };
                 }
             }
             _ => {}

@@ -4,8 +4,10 @@
 //! stand between them.
 
 use crate::cases::Writer;
+use crate::coverage::Came;
 use crate::cut;
-use crate::damage::{damage, DAMAGES, LARGE};
+use crate::damage::{damage, with_room_for_a_copy, DAMAGES, LARGE};
+use crate::depth;
 use crate::generate::{
     self, beside_a_limit, call, loading_case, possible_outcomes, run_case, sequence_case,
     sound_bench, valid_segment, with_damage, Outcome, Rng, SequenceCase, BACK_TO_UNLINKED, FINISHED,
@@ -26,20 +28,20 @@ use std::ops::RangeInclusive;
 /// How often each possible step outcome is in the committed set.
 pub const WANTED: usize = 20;
 /// Cases in a series of single steps on one world.
-const SERIES: usize = 16;
+const SERIES: usize = 64;
 
 /// How often an outcome is drawn for it: oftener where it has several causes.
 fn drawn(outcome: Outcome) -> usize {
     match outcome {
         (Some(150), 9) => 100,
         // products worked by hand count too; as many are to be drawn beside them
-        (Some(140), GONE_ON) => 100,
+        (Some(140), GONE_ON) => 70,
         // calls of unlinked routines worked by hand count too
         (_, UNLINKED) => 3 * WANTED,
         (_, UNLINKED_WHEN_FULL | LINK_BEFORE_UNLINKED | BACK_TO_UNLINKED) => 2 * WANTED,
         // and so do cut instructions
         (_, cut::CUT..=cut::LAST_CUT) => WANTED + 5,
-        (Some(128..), GONE_ON | FINISHED | 6 | 7 | 9 | 10) => 2 * WANTED,
+        (Some(128..), GONE_ON | FINISHED | 6 | 7 | 9 | 10) => WANTED + 15,
         _ => WANTED,
     }
 }
@@ -144,7 +146,7 @@ impl<'a, Q: Write, A: Write> Set<'a, Q, A> {
                 sentence = case.sentence;
                 self.writer.remark(sentence)?;
             }
-            self.writer.remark(&format!("hand {number}: {}", case.name))?;
+            self.writer.remark(&format!("{number} {}", case.name))?;
             self.writer.case(case.start)?;
             for asked in case.asked {
                 let answer = self.writer.ask(asked.request)?;
@@ -166,34 +168,46 @@ impl<'a, Q: Write, A: Write> Set<'a, Q, A> {
 
     // ---------------------------------------------------------- single steps
 
-    /// Every possible outcome as often as wanted.
+    /// Every possible outcome as often as wanted, each on many worlds.
     fn every_step(&mut self) -> io::Result<()> {
-        let mut place = base(&mut self.rng);
+        let mut lacking = possible_outcomes();
+        for _ in 0..100_000 {
+            lacking.retain(|outcome| self.lacks(*outcome));
+            if lacking.is_empty() {
+                break;
+            }
+            let place = base(&mut self.rng);
+            self.lacking_steps(&place, &lacking)?;
+        }
+        Ok(())
+    }
+
+    /// A series on one world, as long as it offers what is lacking.
+    fn lacking_steps(&mut self, place: &Place, lacking: &[Outcome]) -> io::Result<()> {
         let (mut used, mut fruitless) = (0, 0);
-        for first in std::iter::once(None).chain((0..=255).map(Some)) {
-            let hoped: Vec<Outcome> =
-                possible_outcomes().into_iter().filter(|(byte, _)| *byte == first).collect();
-            for _ in 0..200_000 {
-                let Some(lacking) = hoped.iter().find(|outcome| self.lacks(**outcome)) else { break };
-                if used >= SERIES || fruitless > 60 {
-                    place = base(&mut self.rng);
-                    (used, fruitless) = (0, 0);
+        while used < SERIES && fruitless < 60 {
+            let hoped = self.rng.pick(lacking, (None, 1));
+            let now = if used == 0 { &place.world } else { self.writer.world() };
+            match draw(&mut self.rng, place, now, hoped) {
+                Some((next, came)) if self.lacks_of(came) => {
+                    used += self.step(place, next)?;
+                    fruitless = 0;
                 }
-                let now = if used == 0 { &place.world } else { self.writer.world() };
-                match draw(&mut self.rng, &place, now, *lacking) {
-                    Some((next, outcome)) if self.lacks(outcome) => {
-                        used += self.step(&place, next)?;
-                    }
-                    _ => fruitless += 1,
-                }
+                _ => fruitless += 1,
             }
         }
         Ok(())
     }
 
+    /// Whether a step is wanted for what it came to, or for its lowest SP.
+    fn lacks_of(&self, came: Came) -> bool {
+        self.lacks(came.outcome) || came.depth.is_some_and(|depth| self.lacks(depth))
+    }
+
     /// Whether an outcome is to be drawn once more.
     fn lacks(&self, outcome: Outcome) -> bool {
         let wanted = match outcome {
+            (_, depth::DEPTH..) => WANTED,
             (_, pool::POOL..) => {
                 let by_hand = self.by_hand.get(&outcome).copied().unwrap_or(0);
                 WANTED.max(by_hand + DRAWN_OF_POOLS)
@@ -211,12 +225,14 @@ impl<'a, Q: Write, A: Write> Set<'a, Q, A> {
             possible.iter().copied().filter(|(_, end)| ends.contains(end)).collect()
         };
         let of_unlinked = those(UNLINKED..=BACK_TO_UNLINKED);
-        let of_pools = those(pool::POOL..=u32::MAX);
+        let of_pools = those(pool::POOL..=depth::DEPTH - 1);
+        let of_depths = those(depth::DEPTH..=u32::MAX);
         let mut used = 0;
         while used < many && !self.full() {
             let hoped_for = match self.rng.up_to(11) {
                 0 => &of_unlinked,
                 1 | 2 => &of_pools,
+                3 | 4 => &of_depths,
                 _ => &possible,
             };
             let hoped = self.rng.pick(hoped_for, (None, 1));
@@ -224,7 +240,7 @@ impl<'a, Q: Write, A: Write> Set<'a, Q, A> {
             for _ in 0..12 {
                 let now = if used == 0 { &place.world } else { self.writer.world() };
                 let drawn = draw(&mut self.rng, &place, now, hoped);
-                let found = drawn.as_ref().is_some_and(|(_, outcome)| *outcome == hoped);
+                let found = drawn.as_ref().is_some_and(|(_, came)| came.counts_for(hoped));
                 chosen = drawn.map(|(next, _)| next).or(chosen);
                 if found {
                     break;
@@ -339,7 +355,7 @@ impl<'a, Q: Write, A: Write> Set<'a, Q, A> {
 
     /// Every damage so many times (those of a large memory twice).
     fn every_damage(&mut self, times: usize) -> io::Result<()> {
-        let mut start = sound_bench(&mut self.rng);
+        let mut start = with_room_for_a_copy(sound_bench(&mut self.rng));
         let mut on_it = 0;
         for kind in DAMAGES {
             let mut left = if kind == LARGE { 2 } else { times };
@@ -347,8 +363,8 @@ impl<'a, Q: Write, A: Write> Set<'a, Q, A> {
                 if left == 0 {
                     break;
                 }
-                if on_it >= 8 {
-                    start = sound_bench(&mut self.rng);
+                if on_it >= 12 {
+                    start = with_room_for_a_copy(sound_bench(&mut self.rng));
                     on_it = 0;
                 }
                 let done = self.damaged(&start, kind)?;

@@ -3,7 +3,7 @@
 //! byte near a limit of its own.
 
 use crate::bench::{Record, Slot};
-use crate::coverage::AboutTo;
+use crate::coverage::{AboutTo, Came};
 use crate::cut;
 use crate::generate::{
     operand_size, put_word, registers, session_case, telling_factor, telling_integer, telling_mark,
@@ -111,7 +111,7 @@ impl Neighbours {
 }
 
 /// What one step of a session would come to, by the plain machine.
-pub fn outcome(world: &World, number: usize) -> Option<Outcome> {
+pub fn came(world: &World, number: usize) -> Option<Came> {
     let record = world.bench.records.get(number)?;
     let bytes = world.segment_bytes(record.slot)?;
     let segment = Segment::judge(bytes).ok()?;
@@ -120,13 +120,13 @@ pub fn outcome(world: &World, number: usize) -> Option<Outcome> {
     let mut session = record.session;
     let met = AboutTo::meet(&segment, &session, &region);
     machine::step(&segment, shared, &mut region, &mut session);
-    Some(met.outcome(&segment, &session))
+    Some(met.came(&segment, &session))
 }
 
 /// The world changed so that its session meets a first byte (or, for `None`,
 /// the end of the segment), with what the step will come to, which may be other
 /// than hoped.  `None` if the draw gave nothing sound.
-pub fn draw(rng: &mut Rng, place: &Place, world: &World, hoped: Outcome) -> Option<(World, Outcome)> {
+pub fn draw(rng: &mut Rng, place: &Place, world: &World, hoped: Outcome) -> Option<(World, Came)> {
     let (first, hoped_end) = hoped;
     let record = *world.bench.records.get(place.session)?;
     let mut bytes = world.segment_bytes(record.slot)?.to_vec();
@@ -159,8 +159,8 @@ pub fn draw(rng: &mut Rng, place: &Place, world: &World, hoped: Outcome) -> Opti
         lay_code(rng, first, &view, size, &mut laid);
     }
     let next = changed(world, place.session, session, &region, &laid)?;
-    let outcome = outcome(&next, place.session)?;
-    Some((next, outcome))
+    let came = came(&next, place.session)?;
+    Some((next, came))
 }
 
 /// An instruction at the counter, as far as there is room, and the case table

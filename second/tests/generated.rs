@@ -91,6 +91,7 @@ fn neither_machine_panics_on_an_unsound_session() {
             m: wild(&mut rng),
             counter: wild(&mut rng),
             routine: wild(&mut rng),
+            low: wild(&mut rng),
             kind: Kind::Ready,
         };
         let length = rng.pick(&[0, 1, 4, 16, 40], 3);

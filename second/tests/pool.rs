@@ -364,6 +364,7 @@ fn an_ldc_with_nothing_wrong_is_the_interpreters() {
         let mut session = step.before;
         if let Ok(pushed) = pushed {
             session.sp -= pushed.len() as u64;
+            session.low = session.low.min(session.sp);
             session.counter = step.decoded.next;
             region[session.sp as usize..step.before.sp as usize].copy_from_slice(&pushed);
         } else {

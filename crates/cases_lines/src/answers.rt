@@ -44,6 +44,7 @@ fn registers(value: u32, cpu: Cpu, d: [u64; 2]) {
         r.m as u64,
         r.counter as u64,
         r.routine as u64,
+        r.lowest as u64,
         number(k),
         fault(k),
         place(k),
@@ -129,7 +130,8 @@ fn of_regs(h: u64, r: Regs) -> u64 {
     let a = digest::both_halves(h, r.sp as u64);
     let b = digest::both_halves(a, r.m as u64);
     let c = digest::both_halves(b, r.counter as u64);
-    digest::both_halves(c, r.routine as u64)
+    let d = digest::both_halves(c, r.routine as u64);
+    digest::both_halves(d, r.lowest as u64)
 }
 
 fn of_kind(h: u64, k: Kind) -> u64 {

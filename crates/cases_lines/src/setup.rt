@@ -117,12 +117,13 @@ fn region(se: Session, v: [u64; NUMBERS]) -> Session {
 
 fn registers(se: Session, v: [u64; NUMBERS]) -> Session {
     let cpu = Cpu {
-        kind: kind(v[5], v[6], v[7]),
+        kind: kind(v[6], v[7], v[8]),
         regs: Regs {
             sp: v[1] as usize,
             m: v[2] as usize,
             counter: v[3] as usize,
             routine: v[4] as usize,
+            lowest: v[5] as usize,
         },
     };
     se.at(cpu)

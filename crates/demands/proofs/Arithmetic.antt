@@ -1,6 +1,6 @@
 -- The rows of arithmetic, comparison and bits: `arithmetic` of specs/Arithmetic. Two constants are pushed, and a row's function is read on small numbers.
 -- Above: Demands; below: specs/Arithmetic, Steps, Cases' words, and the integers' laws of `basis`.
-use Prim.Native.Nat.{ℕ, _+_, _-_, _≤_, _<_}
+use Prim.Native.Nat.{ℕ, _+_, _-_, _≤_, _<_, min}
 use native.Mathlib.Nat.{mod-eq-of-lt}
 use native.Mathlib.Omega.{arith}
 use mathlib.Core.Path.{_≡_, refl, sym, ap, _∙_}
@@ -17,7 +17,7 @@ use Rattle.basis.proofs.Integer.{low}
 use Rattle.pmachine.specs.State.{Registers}
 use Rattle.pmachine.specs.Meaning.{Meaning, constant, division, unary as unary-of, binary as binary-of}
 use Rattle.pmachine.specs.Opcode.{carried, opcode, rowIn, appendixB}
-use Rattle.pmachine.specs.Step.{goes, moved, asks, effect}
+use Rattle.pmachine.specs.Step.{goes, moved, lowered, asks, effect}
 use Rattle.pmachine.specs.Run.{written}
 use Rattle.demands.specs.Arithmetic.{OfTwo, OfOne, Leaves, Arithmetic}
 use Rattle.pmachine.proofs.Rows.{at-number}
@@ -46,6 +46,10 @@ small-flipped : (x : ℕ) → x ≤ 31 → flipped 16 x ≡ 65535 - x
 unfolding flipped
 small-flipped x a = eqb-true (flipped 16 x) (65535 - x) (at-number (λ (k : ℕ). eqb (flipped 16 k) (65535 - k)) 32 refl x (omega arith))
 
+-- two pushes and the operation: SP is down to the second
+lowest-of : (a x y : ℕ) → y ≤ x → min (min (min a x) y) x ≡ min a y
+lowest-of a x y h = omega arith
+
 module _ (x y : ℕ) (a : x ≤ 31) (b : y ≤ 31) where
   small-unary : (f : ℤ → ℤ) → unary 16 f x ≡ wordOf 16 (f (pos x))
   unfolding unary
@@ -72,7 +76,7 @@ module _ (x y : ℕ) (a : x ≤ 31) (b : y ≤ 31) where
       let size₂ : length w₂ ≡ length w = length-set w₁ (i - 2) y ∙ size₁ in
       let below : getD w₂ (i - 2 + 1) 0 ≡ x = read-other w₁ (i - 2) (i - 2 + 1) y {k = i - 1} (λ e. omega arith) (omega arith) ∙ getD-set-same w (i - 1) x 0 (omega arith) in
       let top : getD w₂ (i - 2 + 0) 0 ≡ y = read-same w₁ (i - 2) (i - 2 + 0) y (omega arith) (omega arith) in
-      let made = makes s shared w₂ (moved r (i - 2) (c + 2)) (i - 1) (c + 3) below top in
+      let made = makes s shared w₂ (lowered (moved (lowered (moved r (i - 1) (c + 1))) (i - 2) (c + 2))) (i - 1) (c + 3) below top in
       more _ _ _
       (goes-on _ _ _ _ (i - 1) (c + 1) (decoded (h .0) (small-constant x a) no-operand refl) (omega arith) (omega arith) tt refl (omega arith))
       2
@@ -83,7 +87,7 @@ module _ (x y : ℕ) (a : x ≤ 31) (b : y ≤ 31) where
       (last _ _ _
       (goes-on _ _ _ _ (i - 1) (c + 3) (decoded (h .1 .1 .0) e no-operand (omega arith)) (omega arith) (omega arith) (made .0) (made .1)
       (omega arith))
-      ∙ rw (← (set-comm w (i - 2) (i - 1) y x (λ k. omega arith)), set-set (set w (i - 2) y) (i - 1) x word)))
+      ∙ rw (lowest-of (r .lowest) (i - 1) (i - 2) (omega arith), ← (set-comm w (i - 2) (i - 1) y x (λ k. omega arith)), set-set (set w (i - 2) y) (i - 1) x word)))
 
   two : {f : ℕ → ℕ → ℕ} {word : ℕ} (byte : ℕ) → opcode byte ≡ carried [] 2 1 (λ _. binary-of f) → f x y ≡ word → OfTwo byte x y word
   unfolding effect asks
@@ -103,12 +107,13 @@ module _ (x y : ℕ) (a : x ≤ 31) (b : y ≤ 31) where
       let w₁ = set w (i - 1) x in
       let size : length w₁ ≡ length w = length-set w (i - 1) x in
       let top : getD w₁ (i - 1 + 0) 0 ≡ x = read-same w (i - 1) (i - 1 + 0) x (omega arith) (omega arith) in
+      let deep : min (min (r .lowest) (i - 1)) (i - 1) ≡ min (r .lowest) (i - 1) = omega arith in
       more _ _ _
       (goes-on _ _ _ _ (i - 1) (c + 1) (decoded (h .0) (small-constant x a) no-operand refl) (omega arith) (omega arith) tt refl (omega arith))
       1
       (last _ _ _
       (goes-on _ _ _ _ (i - 1) (c + 2) (decoded (h .1 .0) e no-operand (omega arith)) (omega arith) (omega arith) tt refl (omega arith))
-      ∙ rw (top, is, set-set w (i - 1) x word))
+      ∙ rw (deep, top, is, set-set w (i - 1) x word))
 
   leaves : Leaves x y
   unfolding opcode rowIn appendixB addOf negOf magOf incOf decOf notOf subOf mulOf quotOf remOf eqOf neOf leqOf geqOf leuOf geuOf andOf orOf truth

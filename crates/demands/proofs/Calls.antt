@@ -20,7 +20,7 @@ use Rattle.pmachine.specs.Decoding.{instruction, decode}
 use Rattle.pmachine.specs.Step.{Outcome, fault, goes, firstFault, floor, callable, newRecord, markAt, resumes, Link, reaches, broken, isBroken, recordOf, reached, groundFor, asks, effect}
 use Rattle.pmachine.specs.Sound.{Ranged}
 use Rattle.pmachine.specs.Run.{isReady, written, placeOf, settled, step}
-use Rattle.demands.specs.Cases.{at-work, stopped, At, CallReturns, CallFaults, Call, Calls}
+use Rattle.demands.specs.Cases.{at-work, down-to, stopped, At, CallReturns, CallFaults, Call, Calls}
 use Rattle.pmachine.proofs.Judged.{first-holds}
 use Rattle.pmachine.proofs.Runs.{step-ready}
 use Rattle.pmachine.proofs.Frame.{written-at}
@@ -93,7 +93,7 @@ module _ (s shared w u v : List ℕ) (r q a : Registers) (p : Whose) (k n b : �
 
   returns : (after : ℕ) → decode s (a .counter) ≡ instruction (inst (return (datasize s k + b)) 0 0 after) → length v ≡ length w → markAt v (q .m) ≡ markAt u (q .m)
       → a .m ≡ q .m → a .sp ≤ length v → r .sp + b ≤ length w → 22 ≤ n → n ≤ length s
-      → step s shared (at-work v a) ≡ at-work v (record { sp = r .sp + b; m = r .m; counter = n; routine = r .routine })
+      → step s shared (at-work v a) ≡ at-work v (down-to (r .sp + b) (record { sp = r .sp + b; m = r .m; counter = n; routine = r .routine; lowest = a .lowest }))
   unfolding effect asks written
   returns after d size kept same-m on-stack room from to =
       let low = h .low in
@@ -104,7 +104,8 @@ module _ (s shared w u v : List ℕ) (r q a : Registers) (p : Whose) (k n b : �
       let not-one = ne-eqb (a .m) 1 (λ e. omega arith) in
       let ok = resumes-by s v (recordOf (reached w (r .m) p)) (r .m) n (r .routine) (r .sp + b) (rg .m-low) (omega (arith, rg .m-high)) (rg .routine-low) (rg .routine-high)
       from to (omega arith) (omega arith) in
-      goes-on s shared v a (a .sp) after d (omega arith) (omega arith) (rw (not-one, mark, sp-is, ok), tt) {q = record { sp = r .sp + b; m = r .m; counter = n; routine = r .routine }}
+      goes-on s shared v a (a .sp) after d (omega arith) (omega arith) (rw (not-one, mark, sp-is, ok), tt)
+      {q = record { sp = r .sp + b; m = r .m; counter = n; routine = r .routine; lowest = a .lowest }}
       {at = a .sp} {ws = []} (rw (not-one, mark, sp-is)) (omega arith)
 
 -- the instruction of a call, from its bytes, and the byte after it

@@ -1,6 +1,6 @@
 -- The case laws of specs/Cases, but for calls: the bytes at the counter are decoded, no check fails, and the effect is what the law says.
 -- Above: Demands; below: specs/Cases, Steps, Links.
-use Prim.Native.Nat.{ℕ, zero, suc, _+_, _-_, _*_, _%_, _≤_, _<_}
+use Prim.Native.Nat.{ℕ, zero, suc, _+_, _-_, _*_, _%_, _≤_, _<_, min}
 use native.Mathlib.Omega.{arith}
 use native.Mathlib.Nat.{zero-add, suc-add}
 use native.Mathlib.Decide.{ℕ-discrete, decLt}
@@ -18,9 +18,9 @@ use Rattle.operand.specs.Operand.{SB, B, signed}
 use Rattle.pmachine.specs.State.{Registers, faulted}
 use Rattle.pmachine.specs.Meaning.{Whose, globals, up, load, store, jump-if}
 use Rattle.pmachine.specs.Opcode.{carried, one, opcode, rowIn, appendixB}
-use Rattle.pmachine.specs.Step.{pointer, target, Link, reaches, broken, follow, reached, moved, wordAt, groundFor, firstFault, asks, effect}
+use Rattle.pmachine.specs.Step.{pointer, target, Link, reaches, broken, follow, reached, moved, lowered, wordAt, groundFor, firstFault, asks, effect}
 use Rattle.pmachine.specs.Run.{isReady, written, placeOf, step, run}
-use Rattle.demands.specs.Cases.{at-work, Leads, At, Cases, onward, Walks}
+use Rattle.demands.specs.Cases.{at-work, down-to, Leads, At, Cases, onward, Walks}
 use Rattle.pmachine.proofs.Links.{Arrives, follow-arrives}
 use Rattle.pmachine.proofs.Frame.{step-fault}
 use Rattle.demands.proofs.Steps.{coded, no-operand, one-SB, one-B, one-W, decoded, judged-at, goes-on, more, last}
@@ -84,7 +84,7 @@ module _ (s shared w : List ℕ) (r : Registers) where
   store-load : (p : Whose) (base st ld x : ℕ) → ((v : List ℕ) → reached v (r .m) p ≡ reaches base)
       → opcode st ≡ carried (B ∷ []) 1 0 (λ v. store p (one v)) → opcode ld ≡ carried (B ∷ []) 0 1 (λ v. load p (one v))
       → At s shared w r (st ∷ x ∷ ld ∷ x ∷ []) 1 → x ≤ 127 → base + 4 + x < length w
-      → run s shared 2 (at-work w r) ≡ at-work (set w (base + 4 + x) (getD w (r .sp + 0) 0)) (moved r (r .sp) (r .counter + 4))
+      → run s shared 2 (at-work w r) ≡ at-work (set w (base + 4 + x) (getD w (r .sp + 0) 0)) (down-to (r .sp) (moved r (r .sp) (r .counter + 4)))
   unfolding effect asks written
   store-load p base st ld x reach es el at few fits =
       let c = r .counter in
@@ -93,6 +93,7 @@ module _ (s shared w : List ℕ) (r : Registers) where
       let v = getD w (r .sp + 0) 0 in
       let w₁ = set w place v in
       let size : length w₁ ≡ length w = length-set w place v in
+      let low : min (min (r .lowest) (r .sp + 1)) (r .sp) ≡ min (r .lowest) (r .sp) = omega arith in
       more _ _ _
       (rw (reach w) at
       (goes-on s shared w r (r .sp + 1) (c + 2) (decoded (h .0) es (one-B (h .1 .0) (omega arith) few) refl) (omega arith) (at .some)
@@ -100,16 +101,16 @@ module _ (s shared w : List ℕ) (r : Registers) where
       1
       (last _ _ _
       (rw (reach w₁) at
-      (goes-on s shared w₁ (moved r (r .sp + 1) (c + 2)) (r .sp) (c + 4) (decoded (h .1 .1 .0) el (one-B (h .1 .1 .1 .0) (omega arith) few) (omega arith))
+      (goes-on s shared w₁ (lowered (moved r (r .sp + 1) (c + 2))) (r .sp) (c + 4) (decoded (h .1 .1 .0) el (one-B (h .1 .1 .1 .0) (omega arith) few) (omega arith))
       (omega arith) (omega (arith, at .some)) (rw (reach w₁), (rw (reach w₁, inside-holds 1 (length w₁) place (omega arith) (omega arith)), tt))
       refl (at .low)))
-      ∙ rw (getD-set-same w place v 0 fits, set-same w₁ (r .sp) v (stays w place (r .sp) v fits (zeroth w (r .sp)))))
+      ∙ rw (low, getD-set-same w place v 0 fits, set-same w₁ (r .sp) v (stays w place (r .sp) v fits (zeroth w (r .sp)))))
 
   -- ---- a jump on bit 0
 
   module _ (b bit d : ℕ) (e : opcode b ≡ carried (SB ∷ []) 1 0 (λ v. jump-if bit (one v))) (at : At s shared w r (b ∷ d ∷ []) 1) where
     bit-jumps : (j : ℕ) → getD w (r .sp + 0) 0 % 2 ≡ bit → Leads s (r .counter + 2) (integerOf 8 d) j
-        → run s shared 1 (at-work w r) ≡ at-work w (moved r (r .sp + 1) j)
+        → run s shared 1 (at-work w r) ≡ at-work w (down-to (r .sp + 1) (moved r (r .sp + 1) j))
     unfolding effect asks written
     bit-jumps j is l =
         let h = coded s b (d ∷ []) (r .counter) (at .code) (at .are) in
@@ -120,7 +121,7 @@ module _ (s shared w : List ℕ) (r : Registers) where
         (goes-on s shared w r (r .sp + 1) (r .counter + 2) (decoded (h .0) e (one-SB (h .1 .0) (omega arith)) refl) (omega arith) (at .some)
         (rw (yes, goal, inside-holds 22 (length s) j (l .low) (l .high)), tt) refl (omega (arith, at .low))))
 
-    bit-passes : (getD w (r .sp + 0) 0 % 2 ≡ bit → ⊥) → run s shared 1 (at-work w r) ≡ at-work w (moved r (r .sp + 1) (r .counter + 2))
+    bit-passes : (getD w (r .sp + 0) 0 % 2 ≡ bit → ⊥) → run s shared 1 (at-work w r) ≡ at-work w (down-to (r .sp + 1) (moved r (r .sp + 1) (r .counter + 2)))
     unfolding effect asks written
     bit-passes is =
         let h = coded s b (d ∷ []) (r .counter) (at .code) (at .are) in
@@ -143,7 +144,7 @@ module _ (s shared w : List ℕ) (r : Registers) where
   asked-between = ap₂ _&&_ (truth-one (ordered 16 _ _)) (truth-one (ordered 16 _ _))
 
   chk : (x : Bool) → between ≡ x → At s shared w r (203 ∷ []) 3 → step s shared (at-work w r)
-      ≡ cond x (at-work w (moved r (r .sp + 2) (r .counter + 1))) (record { words = w; registers = r; kind = faulted 10 (r .counter) })
+      ≡ cond x (at-work w (down-to (r .sp + 2) (moved r (r .sp + 2) (r .counter + 1)))) (record { words = w; registers = r; kind = faulted 10 (r .counter) })
   unfolding opcode rowIn appendixB effect asks written firstFault groundFor isReady placeOf
   chk true f at =
       goes-on _ _ _ _ (r .sp + 2) (r .counter + 1) (decoded (coded s 203 [] (r .counter) (at .code) (at .are) .0) refl no-operand refl)
@@ -195,6 +196,7 @@ cases s shared w r =
           let size₁ : length w₁ ≡ length w = length-set w a v in
           let size₂ : length w₂ ≡ length w = length-set w₁ (i + 1) k ∙ size₁ in
           let some : i + 2 ≤ length w = at .some in
+          let deep : min (min (min (r .lowest) (i + 2)) (i + 1)) (i + 1) ≡ min (r .lowest) (i + 1) = omega arith in
           let pushed : getD w₂ (i + 1 + 0) 0 ≡ a = read-same w₁ (i + 1) (i + 1 + 0) k (omega arith) (omega arith) ∙ sym same in
           let found : getD w₂ (a + 0) 0 ≡ v = read-other w₁ (i + 1) (a + 0) k apart (omega arith) ∙ getD-set-same w a v 0 high in
           more _ _ _
@@ -209,7 +211,7 @@ cases s shared w r =
           (goes-on _ _ _ _ (i + 1) (c + 5) (decoded (h .1 .1 .1 .1 .0) refl no-operand (omega arith)) (omega arith) (omega arith)
           (rw (pushed, ne-eqb a 0 (λ e. omega arith), le-leb (a + 0) 65535 (omega arith), inside-holds 1 (length w₂) (a + 0) (omega arith) (omega arith)), tt)
           refl (omega (arith, at .low)))
-          ∙ rw (pushed, lt-ltb (a + 0) 32768 (omega arith), found, set-set w₁ (i + 1) k v)));
+          ∙ rw (deep, pushed, lt-ltb (a + 0) 32768 (omega arith), found, set-set w₁ (i + 1) k v)));
       UJP = λ d j at l.
           let h = coded s 138 (d ∷ []) c (at .code) (at .are) in
           let goal = leads (c + 2) d j (l .sum) in
@@ -227,12 +229,13 @@ cases s shared w r =
           let some : i + 1 ≤ length w = at .some in
           let w₁ = set w (i - 1) v in
           let size : length w₁ ≡ length w = length-set w (i - 1) v in
+          let deep : min (min (r .lowest) (i - 1)) i ≡ min (r .lowest) (i - 1) = omega arith in
           let below-top : getD w₁ (i - 1 + 1) 0 ≡ v = read-other w (i - 1) (i - 1 + 1) v {k = i} (λ e. omega arith) (omega arith) ∙ zeroth w i in
           let on-top : getD w₁ (i - 1 + 0) 0 ≡ v = read-same w (i - 1) (i - 1 + 0) v (omega arith) (omega arith) in
           more _ _ _ (goes-on _ _ _ _ (i - 1) (c + 1) (decoded (h .0) refl no-operand refl) (omega arith) some tt refl (omega arith)) 1
           (last _ _ _
           (goes-on _ _ _ _ i (c + 2) (decoded (h .1 .0) refl no-operand (omega arith)) (omega arith) (omega arith) tt refl (omega arith))
-          ∙ rw (below-top, on-top, eq-eqb v v refl));
+          ∙ rw (deep, below-top, on-top, eq-eqb v v refl));
       SWAP = λ at.
           last _ _ _
           (goes-on _ _ _ _ i (c + 1) (decoded (coded s 189 [] c (at .code) (at .are) .0) refl no-operand refl) (omega arith) (at .some) tt refl (at .low));
@@ -246,8 +249,9 @@ cases s shared w r =
           let apart : i ≡ i + 1 → ⊥ = λ e. omega arith in
           let top : getD w₁ (i + 0) 0 ≡ a = read-other w₀ (i + 1) (i + 0) v apart (omega arith) ∙ getD-set-same w i a 0 (omega arith) in
           let next : getD w₁ (i + 1) 0 ≡ v = getD-set-same w₀ (i + 1) v 0 (omega arith) in
+          let deep : min (min (r .lowest) i) i ≡ min (r .lowest) i = omega arith in
           more _ _ _ (goes-on _ _ _ _ i (c + 1) (decoded (h .0) refl no-operand refl) (omega arith) some tt refl (at .low)) 1
           (last _ _ _
           (goes-on _ _ _ _ i (c + 2) (decoded (h .1 .0) refl no-operand (omega arith)) (omega arith) (omega arith) tt refl (at .low))
-          ∙ rw (next, top, ← (set-comm w₀ i (i + 1) v v apart), set-set w i a v, set-same w i v (zeroth w i), set-set w (i + 1) v a, set-same w (i + 1) a refl));
+          ∙ rw (deep, next, top, ← (set-comm w₀ i (i + 1) v v apart), set-set w i a v, set-same w i v (zeroth w i), set-set w (i + 1) v a, set-same w (i + 1) a refl));
     }

@@ -21,8 +21,10 @@ use Rattle.pmachine.proofs.Rows.{lines-consecutive}
 use Rattle.pmachine.proofs.Frame.{step-kept}
 use Rattle.pmachine.proofs.Places.{fault-place, fault-one, first-missing, place-outside, place-others, place-at-end}
 use Rattle.pmachine.proofs.Pushed.{ldc-judged, xjp-judged, in-range, stack-holds, stack-order, pool-words, ldc-reads, xjp-reads}
+use Rattle.pmachine.proofs.Lowest.{step-lowest, opening-lowest, sound-lowest}
 use Rattle.pmachine.proofs.Keeps.{step-keeps, run-keeps}
 use Rattle.pmachine.proofs.Runs.{run-add, count-add, count-most, count-all}
+use Rattle.pmachine.specs.Sound.{opened as openedOn}
 use Rattle.sound.specs.Bench.{World}
 use Rattle.promises.specs.Words.{Zeroed, OnlyRecord}
 use Rattle.promises.proofs.Kept.{new-sound, new-answers}
@@ -35,6 +37,7 @@ use Rattle.demands.proofs.Cases.{cases, walks}
 use Rattle.demands.proofs.Calls.{calls}
 use Rattle.demands.proofs.Arithmetic.{arithmetic}
 use Rattle.demands.proofs.Marked.{cases-hold}
+use Rattle.demands.proofs.Lowest.{least-of, opening-at, least-of-all, lowest-since}
 use Rattle.demands.proofs.Tables.{arm-offset}
 use Rattle.demands.proofs.Witness.{witness}
 
@@ -104,6 +107,10 @@ demands =
       pool-words = pool-words;
       ldc-reads = ldc-reads;
       xjp-reads = xjp-reads;
+      step-lowest = step-lowest;
+      run-lowest = least-of;
+      opening-lowest = λ s shared l k. (opening-at s l, least-of-all s shared k (openedOn s l) (opening-lowest s shared l k));
+      sound-lowest = sound-lowest;
       step-keeps = step-keeps;
       run-keeps = run-keeps;
       run-add = run-add;
@@ -147,6 +154,7 @@ demands =
       in-any-order = isolation .in-any-order;
       same-answers = isolation .same-answers;
       on-its-own = λ store ts w g i u. let o = isolation .on-its-own store ts w g i u in search;
+      lowest-since = lowest-since;
       not-open = isolation .not-open;
       two-runs = λ store store′ ts us w w′ i j g h m a. isolation .two-runs store store′ ts us w w′ i j g h m search;
       two-ends = λ store store′ ts us w w′ i j g h m a. let o = isolation .two-ends store store′ ts us w w′ i j g h m search in search;

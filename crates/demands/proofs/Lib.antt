@@ -1,5 +1,6 @@
 -- The proofs of all that is promised, from the theorems of the layers below.
 pub mod Tables
+pub mod Lowest
 pub mod Witness
 pub mod Marked
 pub mod Steps

@@ -17,7 +17,7 @@ use Rattle.pmachine.specs.State.{Registers, State}
 use Rattle.pmachine.specs.Meaning.{Meaning}
 use Rattle.pmachine.specs.Opcode.{carried, opcode}
 use Rattle.pmachine.specs.Decoding.{all, joined, andThen, operands, lawful, allLawful, Instruction, instruction, decodedWith, rowDecoded, decode}
-use Rattle.pmachine.specs.Step.{Outcome, goes, floor, Ground, _when_, groundFor, firstFault, order, below, asks, effect, outcome, judgedBy, judge}
+use Rattle.pmachine.specs.Step.{Outcome, goes, floor, Ground, _when_, groundFor, firstFault, order, below, asks, effect, outcome, judgedBy, judge, lowered, lowering}
 use Rattle.pmachine.specs.Run.{isReady, written, step, run}
 use Rattle.demands.specs.Cases.{at-work}
 use Rattle.pmachine.proofs.Frame.{step-goes}
@@ -112,19 +112,19 @@ module _ (s shared w : List ℕ) (r : Registers) where
 
   -- what is judged, with SP after the words taken and given
   pub judged-at : {m : Meaning} {t g n sp : ℕ} → decode s (r .counter) ≡ instruction (inst m t g n) → r .sp + t - g ≡ sp
-      → judge s shared w r ≡ firstFault order (checksAt m t n sp) (effect s shared w r sp n m)
+      → judge s shared w r ≡ firstFault order (checksAt m t n sp) (lowering (effect s shared w r sp n m))
   unfolding judge judgedBy outcome
   judged-at d e = rw (d, e)
 
   -- a step at which no check fails
   pub goes-on : {m : Meaning} {t g : ℕ} (sp n : ℕ) → decode s (r .counter) ≡ instruction (inst m t g n) → r .sp + t - g ≡ sp → r .sp + t ≤ length w
       → Fine (asks s shared w r n m) → {q : Registers} {at : ℕ} {ws : List ℕ} → effect s shared w r sp n m ≡ goes q at ws → floor s ≤ q .sp
-      → step s shared (at-work w r) ≡ at-work (written w at ws) q
+      → step s shared (at-work w r) ≡ at-work (written w at ws) (lowered q)
   unfolding isReady
   goes-on {m} {t} sp n d e some fine {q} h low =
       let room : below (floor s) (effect s shared w r sp n m) ≡ false = ap (below (floor s)) h ∙ le-ltb (q .sp) (floor s) low in
       step-goes s shared (at-work w r) refl
-      (judged-at d e ∙ fine-goes (checksAt m t n sp) _ (le-ltb (length w) (r .sp + t) some, (room, fine)) ∙ h)
+      (judged-at d e ∙ fine-goes (checksAt m t n sp) _ (le-ltb (length w) (r .sp + t) some, (room, fine)) ∙ ap lowering h)
 
 -- ---- steps together
 

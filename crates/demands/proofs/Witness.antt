@@ -25,7 +25,7 @@ use Rattle.entry.specs.Entries.{newOf, loadOf, lenOk, gapAt, gapOf, openOf, tur
 use Rattle.promises.specs.Requests.{loading, opening, turning}
 use Rattle.promises.proofs.Kept.{new-sound}
 use Rattle.promises.proofs.Requests.{stays-sound}
-use Rattle.demands.specs.Witness.{segment, unlinked, declared, linking, calling, short, ranOut, earlier, word as byteSexed, units, pools, reporting, reported, store, loaded, opened, ran, openings, full, Witness}
+use Rattle.demands.specs.Witness.{segment, unlinked, declared, linking, calling, short, ranOut, earlier, word as byteSexed, units, pools, reporting, reported, popped, lowestAt, store, loaded, opened, ran, openings, full, Witness}
 
 made : answerRuling (newOf 56 4 .answer) ≡ passed
 unfolding newOf limitsOk every
@@ -46,12 +46,13 @@ ran-sound =
     (stays-sound store (loading 0 0 32) _ made-sound))))))
 
 pub witness : Witness
-unfolding segment unlinked declared linking calling short ranOut earlier byteSexed units pools reporting reported store loaded opened ran openings full frame framed position other listOf swapByte swapAt turned
-    every inside part splice wordBy ifThere fetched least word dict reloc pool poolFirst realPool count entry linked datasize exitic start sexBytes headChecks
-    routineChecks routinesFrom checks ruling judged opcode rowIn appendixB joined andThen operands lawful allLawful decodedWith rowDecoded decode
-    modulo integerOf wordOf binary truth ordered subOf leqOf inPool swaps wordsFrom constantsOf onTop inTable armOffset target caseTarget
-    reached markAt resumes groundFor firstFault asks effect outcome judgedBy judge kindInRange inRange starting isReady written comesTo rowComesTo fetchesTo placeOf settled step run
-    stepsDone startOf cpuOk runOf countOf limitsOk slotOk placed apart sessionOk soundB refusing newOf loadOf lenOk gapAt gapOf openOf turnOf closeOf
+unfolding segment unlinked declared linking calling short ranOut earlier byteSexed units pools reporting reported popped lowestAt store loaded opened
+    ran openings full frame framed position other listOf swapByte swapAt turned every inside part splice wordBy ifThere fetched least word dict reloc
+    pool poolFirst realPool count entry linked datasize exitic start sexBytes headChecks routineChecks routinesFrom checks ruling judged opcode rowIn
+    appendixB joined andThen operands lawful allLawful decodedWith rowDecoded decode modulo integerOf wordOf binary truth ordered subOf leqOf inPool
+    swaps wordsFrom constantsOf onTop inTable armOffset target caseTarget reached markAt resumes groundFor firstFault asks effect outcome judgedBy
+    judge kindInRange inRange starting isReady written comesTo rowComesTo fetchesTo placeOf settled step run stepsDone startOf cpuOk runOf countOf
+    limitsOk slotOk placed apart sessionOk soundB refusing newOf loadOf lenOk gapAt gapOf openOf turnOf closeOf
 witness =
     record {
       sound = ran-sound;
@@ -77,6 +78,10 @@ witness =
       real-pool-words = refl;
       first-word = refl;
       first-word-sound = refl;
+      came-back = (refl, refl);
+      lowest-sound = (refl, refl);
+      lowest-below = refl;
+      lowest-above = (refl, refl);
       no-bench = refl;
       not-sound = refl;
       no-session = refl;

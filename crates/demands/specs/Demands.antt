@@ -5,7 +5,7 @@ use mathlib.Core.Path.{_≡_}
 use mathlib.Core.Logic.{_↔_, _⊎_}
 use mathlib.Core.List.{List, [], _++_, map}
 use mathlib.Core.Bool.{Bool, true, false, not, _&&_, _||_, cond}
-use Prim.Native.Nat.{ℕ, suc, _+_, _*_, _-_, _/_, _≤_, _<_}
+use Prim.Native.Nat.{ℕ, suc, _+_, _*_, _-_, _/_, _≤_, _<_, min}
 use lib.ListN.{length, getD, take, drop}
 use lib.Dec.{leb, ltb}
 use lib.IntN.{ℤ, pos, negsuc, negℤ, natAbs, _+ℤ_, _*ℤ_}
@@ -17,13 +17,13 @@ use Rattle.operand.specs.Bytes.{byteAt, wordBy}
 use Rattle.operand.specs.Operand.{Form, got, out, fetched}
 use Rattle.segment.specs.Head.{words, least, word, dict, reloc, pool, realPool, real, count, entry, datasize, exitic, start, shapeOk, sexOk, relocOk, poolOk}
 use Rattle.segment.specs.Judge.{headChecks, routineChecks, checks, judged}
-use Rattle.pmachine.specs.State.{Registers, faulted, State}
+use Rattle.pmachine.specs.State.{Registers, Kind, faulted, State}
 use Rattle.pmachine.specs.Opcode.{appendixB, consecutive}
 use Rattle.pmachine.specs.Decoding.{faulty, decode}
 use Rattle.pmachine.specs.Pool.{inPool, swaps, constantsOf, onTop, lowest, highest, inTable, armOffset}
-use Rattle.pmachine.specs.Step.{fault, goes, floor, moved, caseTarget, judge}
+use Rattle.pmachine.specs.Step.{fault, goes, floor, moved, lowered, caseTarget, judge}
 use Rattle.pmachine.specs.Run.{isReady, placeOf, step, run, stepsDone}
-use Rattle.pmachine.specs.Sound.{inRange, Loaded}
+use Rattle.pmachine.specs.Sound.{inRange, opened as openedOn, Loaded}
 use Rattle.pmachine.specs.Pushed.{IsLdc, IsXjp, SamePool}
 use Rattle.turning.specs.Turn.{framed, position, swapAt, turned, turnRuling, outputOf}
 use Rattle.interleave.specs.Interleave.{By, mine, oneByOne, Below}
@@ -78,7 +78,30 @@ pub record StackThen (s : List ℕ) (mode b n next : ℕ) (t u : State) : Type 0
   pub stack : drop (u .registers .sp) (u .words) ≡ onTop (constantsOf s mode b n) ++ drop (t .registers .sp) (t .words)
   pub below : take (u .registers .sp) (u .words) ≡ take (u .registers .sp) (t .words)
   pub count : u .registers .sp + n ≡ t .registers .sp
-  pub registers : u .registers ≡ record { sp = t .registers .sp - n; m = t .registers .m; counter = next; routine = t .registers .routine }
+  pub registers : u .registers ≡ lowered (moved (t .registers) (t .registers .sp - n) next)
+
+-- ---- the lowest stack pointer after k steps from a state t
+
+-- SP was x after some step, the first to the k-th, after which the session went on
+pub record CameTo (s shared : List ℕ) (k : ℕ) (t : State) (x : ℕ) : Type 0 where
+  pub steps : ℕ
+  pub some : 1 ≤ steps
+  pub most : steps ≤ k
+  pub went-on : isReady (run s shared steps t .kind) ≡ true
+  pub there : run s shared steps t .registers .sp ≡ x
+
+-- the least of the number before and of those SP: no greater than any, and one of them
+pub record LeastOf (s shared : List ℕ) (k : ℕ) (t : State) : Type 0 where
+  pub before : run s shared k t .registers .lowest ≤ t .registers .lowest
+  pub each : (x : ℕ) → CameTo s shared k t x → run s shared k t .registers .lowest ≤ x
+  pub one : (run s shared k t .registers .lowest ≡ t .registers .lowest) ⊎ CameTo s shared k t (run s shared k t .registers .lowest)
+
+-- the least of SP in t and of SP after every step up to the k-th
+pub record LeastOfAll (s shared : List ℕ) (k : ℕ) (t : State) : Type 0 where
+  pub each : (j : ℕ) → j ≤ k → run s shared k t .registers .lowest ≤ run s shared j t .registers .sp
+  pub steps : ℕ
+  pub most : steps ≤ k
+  pub there : run s shared steps t .registers .sp ≡ run s shared k t .registers .lowest
 
 -- ---- t is s in the other byte sex
 
@@ -114,6 +137,17 @@ pub record OnItsOwn (store : List ℕ) (ts : List Turn) (w : World) (i : ℕ) : 
   pub registers : sessionAt (after store ts w) i ≡ at-cpu (sessionAt w i) (cpuOf (runOf (stepsOf (mine i ts)) (codeAt store w i) (sharedOf w) (stateAt w i)))
   pub answers : mine i (answersOf store ts w) ≡ reportsOf (codeAt store w i) (sharedOf w) (mine i ts) (stateAt w i)
   pub counts : reported (mine i (answersOf store ts w)) ≡ countOf (stepsOf (mine i ts)) (codeAt store w i) (sharedOf w) (stateAt w i)
+
+-- ---- session i after the turns ts, from a world in which it has just been opened: the lowest stack pointer of its record is the least SP that the
+-- documented machine gives it, from the opening on to after the last step of its own turns, and it had that SP
+
+pub record LowestSince (store : List ℕ) (ts : List Turn) (w : World) (i : ℕ) : Type 0 where
+  pub each :
+      (k : ℕ) → k ≤ stepsOf (mine i ts)
+      → sessionAt (after store ts w) i .cpu .regs .lowest ≤ runOf k (codeAt store w i) (sharedOf w) (stateAt w i) .cpu .regs .sp
+  pub steps : ℕ
+  pub most : steps ≤ stepsOf (mine i ts)
+  pub there : runOf steps (codeAt store w i) (sharedOf w) (stateAt w i) .cpu .regs .sp ≡ sessionAt (after store ts w) i .cpu .regs .lowest
 
 -- session i of one world and session j of another: both are open, and agree on registers, kind, region, code and shared words. Record
 -- numbers, slots, places in memory, the memories' sizes and all that other sessions hold may differ.
@@ -212,7 +246,7 @@ pub record Demands : Type 0 where
       (s shared w : List ℕ) (r : Registers) (mode b n next : ℕ) → r .sp ≤ length w → IsLdc s (r .counter) mode b n next
       → judge s shared w r
       ≡ cond (inPool s b n)
-      (cond (leb (floor s + n) (r .sp)) (goes (moved r (r .sp - n) next) (r .sp - n) (onTop (constantsOf s mode b n))) (fault 4))
+      (cond (leb (floor s + n) (r .sp)) (goes (lowered (moved r (r .sp - n) next)) (r .sp - n) (onTop (constantsOf s mode b n))) (fault 4))
       (fault 6)
   -- XJP: 3 exactly if there is no index, 6 exactly if W1 and W2 cannot be read or the word of an index in range, "a case target outside 22..2W-1
   -- gives fault 7", and an index out of range goes on
@@ -224,10 +258,10 @@ pub record Demands : Type 0 where
       (cond (inTable s b (getD w (r .sp) 0))
       (cond (inPool s (armOffset s b (getD w (r .sp) 0)) 1)
       (cond (inside 22 (length s) (caseTarget s b next (getD w (r .sp) 0)))
-      (goes (moved r (r .sp + 1) (caseTarget s b next (getD w (r .sp) 0))) (r .sp + 1) [])
+      (goes (lowered (moved r (r .sp + 1) (caseTarget s b next (getD w (r .sp) 0)))) (r .sp + 1) [])
       (fault 7))
       (fault 6))
-      (goes (moved r (r .sp + 1) next) (r .sp + 1) []))
+      (goes (lowered (moved r (r .sp + 1) next)) (r .sp + 1) []))
       (fault 6))
   -- "in the range W1 through W2", as integers
   pub in-range :
@@ -256,6 +290,21 @@ pub record Demands : Type 0 where
   pub xjp-reads :
       (s t shared w : List ℕ) (r : Registers) (b next : ℕ) → floor s ≤ r .sp → SamePool s t
       → IsXjp s (r .counter) b next → IsXjp t (r .counter) b next → judge t shared w r ≡ judge s shared w r
+  -- request 3, "The session record shall keep the lowest stack pointer reached since opening [..]. A step that faults doesn't move it": of a step from any
+  -- state, the lesser of the number before and of SP after it if the session goes on, else the number before
+  pub step-lowest :
+      (s shared : List ℕ) (t : State) → isReady (t .kind) ≡ true
+      → (isReady (step s shared t .kind) ≡ true
+      → step s shared t .registers .lowest ≡ min (t .registers .lowest) (step s shared t .registers .sp))
+      × (isReady (step s shared t .kind) ≡ false → step s shared t .registers .lowest ≡ t .registers .lowest)
+  -- of k steps from any state: no greater than the number before, nor than SP after any step that went on, and one of them. "L at the start": from an
+  -- opening it is the least SP that there was
+  pub run-lowest : (s shared : List ℕ) (k : ℕ) (t : State) → LeastOf s shared k t
+  pub opening-lowest : (s shared : List ℕ) (l k : ℕ) → (openedOn s l .registers .lowest ≡ l) × LeastOfAll s shared k (openedOn s l)
+  -- "A sound bench now also has this mark in 6+G..SP": in a sound session's registers exactly the numbers there are sound
+  pub sound-lowest :
+      (s : List ℕ) (l : ℕ) (r : Registers) (k : Kind) (x : ℕ) → inRange s l r k ≡ true
+      → (inRange s l (record { sp = r .sp; m = r .m; counter = r .counter; routine = r .routine; lowest = x }) k ≡ true) ↔ ((floor s ≤ x) × (x ≤ r .sp))
   -- a step, and a turn, keep what soundness says of a session
   pub step-keeps :
       (s shared : List ℕ) (l : ℕ) → Loaded s → (t : State) → length (t .words) ≡ l → inRange s l (t .registers) (t .kind) ≡ true
@@ -305,6 +354,11 @@ pub record Demands : Type 0 where
   -- "each session's words, registers, kind and step counts are those of the documented machine run on its own region, its own code and the
   -- read-only shared words"
   pub on-its-own : (store : List ℕ) (ts : List Turn) (w : World) → Sound store w → (i : ℕ) → sessionAt w i .used ≡ true → OnItsOwn store ts w i
+  -- "Demand 3 counts it among the registers": it is among those of `on-its-own`. So, of a session that was opened on a sound bench, after any turns of
+  -- any sessions, it is the least SP that its own steps reached
+  pub lowest-since :
+      (store : List ℕ) (w : World) (slot len i : ℕ) (ts : List Turn) → Sound store w → openOf store slot len w .answer ≡ Done i
+      → LowestSince store ts (openOf store slot len w .world) i
   pub not-open :
       (store : List ℕ) (ts : List Turn) (w : World) → Sound store w → (i : ℕ) → sessionAt w i .used ≡ false
       → mine i (answersOf store ts w) ≡ map (λ (k : ℕ). Refused 12 0) (mine i ts)

@@ -36,7 +36,7 @@ unfoldable pub after : Kind → State
 after k =
     record {
       words = 0 ∷ 0 ∷ 0 ∷ 0 ∷ 0 ∷ 0 ∷ 0 ∷ 0 ∷ 0 ∷ 0 ∷ 0 ∷ 0 ∷ 0 ∷ 0 ∷ 7 ∷ 5 ∷ [];
-      registers = record { sp = 14; m = 1; counter = 32; routine = 1 };
+      registers = record { sp = 14; m = 1; counter = 32; routine = 1; lowest = 14 };
       kind = k;
     }
 
@@ -46,7 +46,7 @@ cutShort = take 30 small ++ (0x87 ∷ 0x80 ∷ [])
 
 -- its one step faults with 1 at the byte that is missing, 2W, the counter stays at the instruction's first byte, and nothing else has changed
 unfoldable pub afterCut : State
-afterCut = record { words = replicate 16 0; registers = record { sp = 16; m = 1; counter = 30; routine = 1 }; kind = faulted 1 32 }
+afterCut = record { words = replicate 16 0; registers = record { sp = 16; m = 1; counter = 30; routine = 1; lowest = 16 }; kind = faulted 1 32 }
 
 unfoldable pub marked-cases : List Case
 marked-cases =

@@ -1,12 +1,14 @@
 -- The promises are not empty: the entries lead from nothing to a sound bench with a ready, a finished and a faulted session, and each of them
 -- takes a turn; a segment with a routine that is not linked loads; a report that ends within an instruction faults where its bytes ran out; one with a
--- pool runs in either byte sex; and refusals 1, 4, 6 and 11 to 17 are each given to somebody. So no runner that refuses everything, and no loader that takes everything, meets the contracts.
+-- pool runs in either byte sex, and its lowest stack pointer is judged; and refusals 1, 4, 6 and 11 to 17 are each given to somebody. So no runner that
+-- refuses everything, and no loader that takes everything, meets the contracts.
 -- Proved as `witness` in proofs/Witness, by computing. Above: Demands. Below: bench's entries.
 use mathlib.Core.Path.{_≡_}
 use mathlib.Core.Bool.{Bool, true, false, cond}
 use mathlib.Core.List.{List, [], _∷_, _++_}
 use Prim.Native.Nat.{ℕ, zero, suc, _/_, _%_}
 use lib.ListN.{replicate, set, take, drop}
+use Rattle.machine.specs.declared.Cpu.{Cpu}
 use Rattle.machine.specs.declared.Kind.the-variants.{Ready, Finished, Faulted}
 use Rattle.sound.specs.Bench.{World, worldOf, sessionAt, wordsOf, at-cpu, at-sessions}
 use Rattle.sound.specs.Sound.{Sound}
@@ -78,6 +80,16 @@ reporting =
 unfoldable pub reported : World
 reported = turnOf pools 2 9 (turnOf pools 1 9 (turnOf pools 0 9 reporting .world) .world) .world
 
+-- the first of them after three steps, which pushed three words and popped one; and the same bench with another lowest stack pointer in its record
+unfoldable pub popped : World
+popped = turnOf pools 0 3 reporting .world
+
+unfoldable pub lowestAt : ℕ → World
+lowestAt x =
+    let r = sessionAt popped 0 .cpu .regs in
+    let c : Cpu = record { kind = Ready; regs = record { sp = r .sp; m = r .m; counter = r .counter; routine = r .routine; lowest = x } } in
+    worldOf (at-sessions (popped .bench) (set (popped .bench .sessions) 0 (at-cpu (sessionAt popped 0) c))) (popped .mem)
+
 -- the small segment, then one that returns at once (RPU 0)
 unfoldable pub store : List ℕ
 store = segment 5 7 ++ segment 150 0
@@ -133,6 +145,11 @@ pub record Witness : Type 0 where
   pub real-pool-words : drop 13 (wordsOf reported (sessionAt reported 2)) ≡ 1 ∷ 7 ∷ 300 ∷ []
   pub first-word : loadOf (pools ++ units true 8) 3 180 60 reported .answer ≡ Refused 4 0
   pub first-word-sound : turnOf (units true 8 ++ drop 60 pools) 1 1 reported .answer ≡ Refused 11 0
+  -- request 3: SP went down to 13 and came back to 14; a bench is sound with 6+G, which is 6, to SP for the lowest, and with no other number
+  pub came-back : (sessionAt popped 0 .cpu .regs .sp ≡ 14) × (sessionAt popped 0 .cpu .regs .lowest ≡ 13)
+  pub lowest-sound : (turnOf pools 0 1 (lowestAt 6) .answer ≡ Done 1) × (turnOf pools 0 1 (lowestAt 14) .answer ≡ Done 1)
+  pub lowest-below : turnOf pools 0 1 (lowestAt 5) .answer ≡ Refused 11 0
+  pub lowest-above : (turnOf pools 0 1 (lowestAt 15) .answer ≡ Refused 11 0) × (turnOf pools 0 1 (lowestAt 18446744073709551615) .answer ≡ Refused 11 0)
   -- refusals; the entry that is refused with 6 is a zero of routine 1
   pub no-bench : newOf 56 57 .answer ≡ Refused 17 0
   pub not-sound : turnOf [] 0 1 ran .answer ≡ Refused 11 0

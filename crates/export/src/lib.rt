@@ -16,18 +16,19 @@ fn told(q: Cpu, after: &mut [u64; 8]) {
     after[1] = g.m as u64;
     after[2] = g.counter as u64;
     after[3] = g.routine as u64;
+    after[4] = g.lowest as u64;
     let kind = q.kind;
     match kind {
         Kind::Ready => {
-            after[4] = 0;
+            after[5] = 0;
         }
         Kind::Finished => {
-            after[4] = 1;
+            after[5] = 1;
         }
         Kind::Faulted(n, place) => {
-            after[4] = 2;
-            after[5] = n as u64;
-            after[6] = place as u64;
+            after[5] = 2;
+            after[6] = n as u64;
+            after[7] = place as u64;
         }
     }
 }
@@ -74,12 +75,13 @@ pub extern "C" fn pm_turn(
     m: usize,
     counter: usize,
     routine: usize,
+    lowest: usize,
     after: &mut [u64; 8],
     k: usize,
 ) -> usize
     requires { ⌜ Placed (length (now mem)) at end s ⌝ }
     requires { ⌜ Loaded (now seg) ⌝ }
-    requires { ⌜ Ranged (now seg) (end - at) (record { sp = sp; m = m; counter = counter; routine = routine }) ⌝ }
+    requires { ⌜ Ranged (now seg) (end - at) (record { sp = sp; m = m; counter = counter; routine = routine; lowest = lowest }) ⌝ }
 {
     turn_from(
         mem,
@@ -92,6 +94,7 @@ pub extern "C" fn pm_turn(
             m,
             counter,
             routine,
+            lowest,
         },
         after,
         k,

@@ -11,7 +11,7 @@ use Rattle.basis.specs.Integer.{addOf, subOf, mulOf, negOf, incOf, decOf, magOf
 use Rattle.segment.specs.Head.{word, pool, realPool, count, linked, datasize, start}
 use Rattle.pmachine.specs.State.{Registers}
 use Rattle.pmachine.specs.Pool.{wordsFrom, onTop}
-use Rattle.pmachine.specs.Step.{Outcome, fault, finish, goes, moved, floor, newRecord, target, markAt}
+use Rattle.pmachine.specs.Step.{Outcome, fault, finish, goes, moved, lowered, floor, newRecord, target, markAt}
 use Rattle.plan.specs.declared.Unary.{Unary}
 use Rattle.plan.specs.declared.Unary.the-variants.{Abi, Ngi, Lnot, Inci, Deci}
 use Rattle.plan.specs.declared.Binary.{Binary}
@@ -35,7 +35,7 @@ lack k w r done = cond (ltb (length w) (r .sp + k)) (fault 3) done
 
 unfoldable pub pushed : ℕ → Registers → ℕ → ℕ → Outcome
 pushed low r next v =
-    cond (ltb (r .sp - 1) low) (fault 4) (goes (moved r (r .sp - 1) next) (r .sp - 1) (v ∷ []))
+    cond (ltb (r .sp - 1) low) (fault 4) (goes (lowered (moved r (r .sp - 1) next)) (r .sp - 1) (v ∷ []))
 
 abbrev pub one : Registers → ℕ → ℕ → Outcome
 one r next v = goes (moved r (r .sp) next) (r .sp) (v ∷ [])
@@ -125,7 +125,7 @@ unfoldable pub sexBy : ℕ → ℕ → ℕ
 sexBy sex mode = cond (eqb mode 2) sex 0
 
 unfoldable pub blocked : List ℕ → ℕ → Registers → ℕ → ℕ → Found → Outcome
-blocked s sex r n next (At first) = goes (moved r (r .sp - n) next) (r .sp - n) (onTop (wordsFrom (eqb sex 0) s first n))
+blocked s sex r n next (At first) = goes (lowered (moved r (r .sp - n) next)) (r .sp - n) (onTop (wordsFrom (eqb sex 0) s first n))
 blocked s sex r n next (Fault k) = fault k
 
 -- ---- jumps, calls and returns
@@ -168,7 +168,7 @@ entered s sp k =
 
 unfoldable pub called : Registers → ℕ → ℕ → ℕ → Entry → Outcome
 called r k parent next (To sp counter) =
-    goes (record { sp = sp; m = sp; counter = counter; routine = k }) sp (parent ∷ r .m ∷ next ∷ 1 ∷ r .routine ∷ [])
+    goes (lowered (record { sp = sp; m = sp; counter = counter; routine = k; lowest = r .lowest })) sp (parent ∷ r .m ∷ next ∷ 1 ∷ r .routine ∷ [])
 called r k parent next (Not n) = fault n
 
 -- as `resumes` says, of 2W, L, n and 6+G
@@ -185,11 +185,13 @@ returned len n low w r a =
     cond (eqb (r .m) 1) finish
     (cond (inOrder len (length w) n low (markAt w (r .m)) (r .m + 5 + a))
     (goes
+    (lowered
     (record {
       sp = r .m + 5 + a;
       m = getD (markAt w (r .m)) 1 0;
       counter = getD (markAt w (r .m)) 2 0;
       routine = getD (markAt w (r .m)) 4 0;
-    })
+      lowest = r .lowest;
+    }))
     (r .sp) [])
     (fault 9))

@@ -78,7 +78,7 @@ fn give_read(r: Regs, next: usize, x: Read) -> Planned
     ensures { λ p. ⌜ ((s : List ℕ) → outcomeOf s r p ≡ gives (regsOf r) next x) ⌝ }
 {
     match x {
-        Read::Value(v) => Planned::Top(v, r.sp, next),
+        Read::Value(v) => Planned::One(v, next),
         Read::Missing => Planned::Bad(6),
     }
 }

@@ -38,15 +38,14 @@ pub fn swap(region: &[u16], r: Regs, next: usize) -> Planned
 fn give_one(r: Regs, next: usize, v: u16) -> Planned
     ensures { λ p. ⌜ ((s : List ℕ) → outcomeOf s r p ≡ one (regsOf r) next v) ⌝ }
 {
-    Planned::Top(v, r.sp, next)
+    Planned::One(v, next)
 }
 
 // A word in the place of the two top ones.
 fn give_two(r: Regs, next: usize, v: u16) -> Planned
-    requires { ⌜ r .sp ≤ 32768 ⌝ }
     ensures { λ p. ⌜ ((s : List ℕ) → outcomeOf s r p ≡ two (regsOf r) next v) ⌝ }
 {
-    Planned::Top(v, r.sp + 1, next)
+    Planned::Two(v, next)
 }
 
 fn one_of(f: Unary, x: u16) -> u16

@@ -1,7 +1,7 @@
 -- What one step may come to, from registers in range: a fault in 1..10, the finish, or registers in range and writes inside the region; and fault 1
 -- only if the fetching came to the segment's end.
 -- One clause a meaning. Above: Keeps, and the proofs of the code's step; below: Step, Sound, Decoded.
-use Prim.Native.Nat.{ℕ, _+_, _-_, _%_, _<_, _≤_}
+use Prim.Native.Nat.{ℕ, _+_, _-_, _%_, _<_, _≤_, min}
 use native.Mathlib.Omega.{arith}
 use mathlib.Core.Path.{_≡_, refl, subst}
 use mathlib.Core.List.{List, [], _∷_}
@@ -18,7 +18,7 @@ use Rattle.pmachine.specs.Meaning.{binary, division, duplicate, swap, no
 use Rattle.pmachine.specs.Decoding.{Instruction, Decoded, instruction, faulty, decode, fetchesTo}
 use Rattle.pmachine.specs.Pool.{constantsOf, onTop, inTable}
 use Rattle.pmachine.specs.Step.{Outcome, fault, finish, goes, floor, pointer, private, target, caseTarget, callable, newRecord, markAt, resumes}
-use Rattle.pmachine.specs.Step.{moved, Ground, _when_, groundFor, firstFault, order, below, asks, effect, outcome, judgedBy, judge}
+use Rattle.pmachine.specs.Step.{moved, lowered, lowering, Ground, _when_, groundFor, firstFault, order, below, asks, effect, outcome, judgedBy, judge}
 use Rattle.pmachine.specs.Sound.{Ranged, Loaded}
 use Rattle.pmachine.proofs.Rows.{pushes}
 use Rattle.pmachine.proofs.Pool.{length-constants}
@@ -102,41 +102,45 @@ resumed s w mark sp h =
 
 module _ (s shared w : List ℕ) (r : Registers) (ld : Loaded s) (rg : Ranged s (length w) r) where
   -- the same record and routine, another stack pointer and counter
-  stay : (sp n : ℕ) → ltb sp (floor s) ≡ false → sp ≤ length w → 22 ≤ n → n ≤ length s → Ranged s (length w) (moved r sp n)
-  stay sp n e h a b = let low = ltb-false sp (floor s) e in search
+  stay : (sp n : ℕ) → ltb sp (floor s) ≡ false → sp ≤ length w → 22 ≤ n → n ≤ length s → Ranged s (length w) (lowered (moved r sp n))
+  stay sp n e h a b =
+      let low = ltb-false sp (floor s) e in
+      let deep : floor s ≤ min (r .lowest) sp = omega (arith, rg .lowest-low) in
+      let most : min (r .lowest) sp ≤ sp = omega arith in
+      search
 
   -- of SP after the words taken and given, g of them given
   module _ (sp g : ℕ) (k : sp + g ≤ length w) where
     -- words written on the stack
-    on-stack : (n : ℕ) (ws : List ℕ) → length ws ≤ g → 22 ≤ n → n ≤ length s → ltb sp (floor s) ≡ false → Goes s (length w) (moved r sp n) sp ws
+    on-stack : (n : ℕ) (ws : List ℕ) → length ws ≤ g → 22 ≤ n → n ≤ length s → ltb sp (floor s) ≡ false → Goes s (length w) (lowered (moved r sp n)) sp ws
     on-stack n ws p a b e =
         let low = ltb-false sp (floor s) e in
         record { registers = stay sp n e (omega arith) a b; fits = omega arith; above = λ _. omega arith }
 
     -- j words written on the stack, below those given
-    block : (n j : ℕ) (ws : List ℕ) → length ws ≡ j → 22 ≤ n → n ≤ length s → ltb (sp - j) (floor s) ≡ false → Goes s (length w) (moved r (sp - j) n) (sp - j) ws
+    block : (n j : ℕ) (ws : List ℕ) → length ws ≡ j → 22 ≤ n → n ≤ length s → ltb (sp - j) (floor s) ≡ false → Goes s (length w) (lowered (moved r (sp - j) n)) (sp - j) ws
     block n j ws long a b e =
         let low = ltb-false (sp - j) (floor s) e in
         record { registers = stay (sp - j) n e (omega arith) a b; fits = omega (arith, long); above = λ _. omega arith }
 
     -- a word written at a private address
-    at-place : (n at v : ℕ) → not (private w at) ≡ false → 22 ≤ n → n ≤ length s → ltb sp (floor s) ≡ false → Goes s (length w) (moved r sp n) at (v ∷ [])
+    at-place : (n at v : ℕ) → not (private w at) ≡ false → 22 ≤ n → n ≤ length s → ltb sp (floor s) ≡ false → Goes s (length w) (lowered (moved r sp n)) at (v ∷ [])
     at-place n at v o a b e =
         let i = inside-true 1 (length w) at (not-false (private w at) o) in
         record { registers = stay sp n e (omega arith) a b; fits = omega (arith, i .1); above = λ _. i .0 }
 
-    jumped : (t : ℕ) → not (inside 22 (length s) t) ≡ false → ltb sp (floor s) ≡ false → Goes s (length w) (moved r sp t) sp []
+    jumped : (t : ℕ) → not (inside 22 (length s) t) ≡ false → ltb sp (floor s) ≡ false → Goes s (length w) (lowered (moved r sp t)) sp []
     jumped t o e =
         let i = inside-true 22 (length s) t (not-false (inside 22 (length s) t) o) in
         on-stack t [] (omega arith) (i .0) (omega (arith, i .1)) e
 
     branched : (n t : ℕ) (x : Bool) → (x && not (inside 22 (length s) t)) ≡ false → 22 ≤ n → n ≤ length s → ltb sp (floor s) ≡ false
-        → Goes s (length w) (moved r sp (cond x t n)) sp []
+        → Goes s (length w) (lowered (moved r sp (cond x t n))) sp []
     branched n t true o a b e = jumped t o e
     branched n t false o a b e = on-stack n [] (omega arith) a b e
 
     called : (j : ℕ) (ws : List ℕ) → length ws ≡ 5 → not (callable s j) ≡ false → ltb (newRecord s sp j) (floor s) ≡ false
-        → Goes s (length w) (record { sp = newRecord s sp j; m = newRecord s sp j; counter = start s j; routine = j }) (newRecord s sp j) ws
+        → Goes s (length w) (lowered (record { sp = newRecord s sp j; m = newRecord s sp j; counter = start s j; routine = j; lowest = r .lowest })) (newRecord s sp j) ws
     unfolding start
     called j ws five o e =
         let low = ltb-false (newRecord s sp j) (floor s) e in
@@ -156,6 +160,8 @@ module _ (s shared w : List ℕ) (r : Registers) (ld : Loaded s) (rg : Ranged s 
                 counter-high = rw (b .1) (omega (arith, f .entry-high, ld .even));
                 routine-low = i .0;
                 routine-high = known;
+                lowest-low = omega (arith, rg .lowest-low);
+                lowest-high = omega arith;
               };
           fits = omega arith;
           above = λ _. omega arith;
@@ -163,16 +169,19 @@ module _ (s shared w : List ℕ) (r : Registers) (ld : Loaded s) (rg : Ranged s 
 
     returned : (v : ℕ) (x : Bool) → not (x || resumes s w (markAt w (r .m)) (r .m + 5 + v)) ≡ false
         → Good s (length w) (fetchesTo s (r .counter))
+        (lowering
         (cond x finish
-        (goes (record { sp = r .m + 5 + v; m = getD (markAt w (r .m)) 1 0; counter = getD (markAt w (r .m)) 2 0; routine = getD (markAt w (r .m)) 4 0 }) sp []))
+        (goes (record { sp = r .m + 5 + v; m = getD (markAt w (r .m)) 1 0; counter = getD (markAt w (r .m)) 2 0; routine = getD (markAt w (r .m)) 4 0; lowest = r .lowest }) sp [])))
     returned v true o = tt
     returned v false o =
         let z = resumed s w (markAt w (r .m)) (r .m + 5 + v) (not-false _ o) in
+        let deep : floor s ≤ min (r .lowest) (r .m + 5 + v) = omega (arith, rg .lowest-low, z .sp-low) in
+        let most : min (r .lowest) (r .m + 5 + v) ≤ r .m + 5 + v = omega arith in
         record { registers = search; fits = omega arith; above = λ (h : 0 < 0). absurd (omega arith) }
 
     effect-good : (x : Bool) (n : ℕ) (m : Meaning) → pushes m ≤ g → 22 ≤ n → n ≤ length s
         → Clear (3 when x ∷ 4 when below (floor s) (effect s shared w r sp n m) ∷ asks s shared w r n m)
-        → Good s (length w) (fetchesTo s (r .counter)) (effect s shared w r sp n m)
+        → Good s (length w) (fetchesTo s (r .counter)) (lowering (effect s shared w r sp n m))
     unfolding effect asks groundFor pushes
     effect-good x n (constant v) p a b c = on-stack n (v ∷ []) p a b (c .four)
     effect-good x n (pool-offset v) p a b c = on-stack n (_ ∷ []) p a b (c .four)

@@ -87,4 +87,6 @@ starting-ranged s l ld h =
       counter-high = rw some (omega (arith, f .entry-high, ld .even));
       routine-low = omega arith;
       routine-high = ld .some;
+      lowest-low = h;
+      lowest-high = omega arith;
     }

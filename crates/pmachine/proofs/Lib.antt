@@ -9,6 +9,7 @@ pub mod Judged
 pub mod Runs
 pub mod Keeps
 pub mod Frame
+pub mod Lowest
 pub mod Places
 pub mod Pushed
 pub mod Accepted

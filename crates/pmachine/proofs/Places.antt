@@ -15,7 +15,7 @@ use Rattle.pmachine.specs.State.{Registers, Kind, ready, finished, fault
 use Rattle.pmachine.specs.Meaning.{Meaning, constant, pool-offset, constants, load, address, store, index, indirect, unary}
 use Rattle.pmachine.specs.Meaning.{binary, division, duplicate, swap, nothing, subrange, jump, jump-if, case-jump, call, return}
 use Rattle.pmachine.specs.Decoding.{Decoded, instruction, faulty, decode, fetchesTo}
-use Rattle.pmachine.specs.Step.{Outcome, fault, finish, goes, effect, outcome, judgedBy, judge}
+use Rattle.pmachine.specs.Step.{Outcome, fault, finish, goes, effect, outcome, judgedBy, judge, lowering, done}
 use Rattle.pmachine.specs.Run.{isReady, placeOf, settled, step, run}
 use Rattle.pmachine.specs.Sound.{Loaded}
 use Rattle.pmachine.specs.Places.{FaultPlace, FaultOne, FirstMissing, PlaceOutside, PlaceOthers, PlaceAtEnd}
@@ -52,6 +52,11 @@ Fine (fault n) = ⊥
 Fine finish = Unit {0}
 Fine (goes q at ws) = Unit {0}
 
+lowering-fine : (o : Outcome) → Fine o → Fine (lowering o)
+lowering-fine (fault n) h = h
+lowering-fine finish h = tt
+lowering-fine (goes q at ws) h = tt
+
 module _ (s shared w : List ℕ) (r : Registers) where
   effect-fine : (sp next : ℕ) (m : Meaning) → Fine (effect s shared w r sp next m)
   unfolding effect
@@ -81,7 +86,7 @@ module _ (s shared w : List ℕ) (r : Registers) where
   by-one (instruction i) = (
     first-holds (λ (o : Outcome). o ≡ fault 1 → instruction i ≡ faulty 1) _ _
         (λ n low _ (e : fault n ≡ fault 1). let one : n ≡ 1 = cc in absurd (omega arith))
-        (λ _ e. absurd (subst Fine e (effect-fine _ _ (i .does)))),
+        (λ _ e. absurd (subst Fine e (lowering-fine (done s shared w r i) (effect-fine _ _ (i .does))))),
     λ e. let z : _≡_ {A = ℕ} 0 1 = cc in absurd (omega arith),
   )
   by-one (faulty n) = (λ (e : fault n ≡ fault 1). let one : n ≡ 1 = cc in ap faulty one, λ e. let one : n ≡ 1 = cc in ap fault one)

@@ -18,7 +18,7 @@ use Rattle.pmachine.specs.Meaning.{constants, case-jump}
 use Rattle.pmachine.specs.Opcode.{opcode, rowIn, appendixB}
 use Rattle.pmachine.specs.Decoding.{Instruction, instruction, lawful, allLawful, decodedWith, rowDecoded, decode}
 use Rattle.pmachine.specs.Pool.{inPool, swaps, wordsFrom, constantsOf, onTop, lowest, highest, inTable, armOffset}
-use Rattle.pmachine.specs.Step.{Outcome, fault, goes, moved, floor, caseTarget, groundFor, firstFault, asks, effect, outcome, judgedBy, judge}
+use Rattle.pmachine.specs.Step.{Outcome, fault, goes, moved, lowered, floor, caseTarget, groundFor, firstFault, asks, effect, outcome, judgedBy, judge}
 use Rattle.pmachine.specs.Run.{isReady, written, settled, step}
 use Rattle.pmachine.specs.Pushed.{IsLdc, IsXjp, ldcComes, LdcJudged, xjpComes, InRange, XjpJudged, Holds, StackHolds, StackOrder, PoolWords, SamePool, LdcReads, XjpReads}
 use Rattle.pmachine.proofs.Pool.{top-one, length-constants, in-pool, some-pool}
@@ -76,10 +76,10 @@ module _ (s shared w : List ℕ) (r : Registers) where
       by-tests : (few two case arm code : Bool) (a c : ℕ)
           → cond few (fault 3)
           (cond (not (two && (not case || arm))) (fault 6)
-          (cond (case && not code) (fault 7) (goes (moved r (r .sp + 1) (cond case a c)) (r .sp + 1) [])))
+          (cond (case && not code) (fault 7) (goes (lowered (moved r (r .sp + 1) (cond case a c))) (r .sp + 1) [])))
           ≡ cond few (fault 3)
           (cond two
-          (cond case (cond arm (cond code (goes (moved r (r .sp + 1) a) (r .sp + 1) []) (fault 7)) (fault 6)) (goes (moved r (r .sp + 1) c) (r .sp + 1) []))
+          (cond case (cond arm (cond code (goes (lowered (moved r (r .sp + 1) a)) (r .sp + 1) []) (fault 7)) (fault 6)) (goes (lowered (moved r (r .sp + 1) c)) (r .sp + 1) []))
           (fault 6))
       by-tests true two case arm code a c = refl
       by-tests false false case arm code a c = refl
@@ -117,7 +117,7 @@ written-split ws w at h = written-sets ws w at ∙ sets-eq ws w at h ∙ append-
 
 module _ (s : List ℕ) (mode b n next : ℕ) (w : List ℕ) (r : Registers) where
   abbrev after : Registers
-  after = moved r (r .sp - n) next
+  after = lowered (moved r (r .sp - n) next)
 
   abbrev block : List ℕ
   block = onTop (constantsOf s mode b n)
@@ -147,7 +147,7 @@ stack-holds s shared t mode b n next high i rdy still =
     go stepped _ refl _ refl
   where
     went : Outcome
-    went = goes (moved (t .registers) (t .registers .sp - n) next) (t .registers .sp - n) (onTop (constantsOf s mode b n))
+    went = goes (lowered (moved (t .registers) (t .registers .sp - n) next)) (t .registers .sp - n) (onTop (constantsOf s mode b n))
 
     go : step s shared t ≡ settled s (t .words) (t .registers) (ldcComes s (t .registers) mode b n next) → (x : Bool) → inPool s b n ≡ x
         → (y : Bool) → leb (floor s + n) (t .registers .sp) ≡ y → Holds s mode b n next t (step s shared t)

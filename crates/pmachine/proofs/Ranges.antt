@@ -48,11 +48,13 @@ module _ (s : List ℕ) (l : ℕ) (r : Registers) (k : Kind) where
         counter-high = leb-true _ _ (b .1 .1 .0);
         routine-low = leb-true _ _ (b .1 .1 .1 .0);
         routine-high = leb-true _ _ (b .1 .1 .1 .1 .0);
+        lowest-low = leb-true _ _ (b .1 .1 .1 .1 .1 .0);
+        lowest-high = leb-true _ _ (b .1 .1 .1 .1 .1 .1 .0);
       }
 
   pub kind-ranged : inRange s l r k ≡ true → KindRanged s k
   unfolding inRange
-  kind-ranged h = let a = every-holds _ h in kind-numbers s k (a .1 .1 .1 .1 .1 .1 .1 .1 .1 .0)
+  kind-ranged h = let a = every-holds _ h in kind-numbers s k (a .1 .1 .1 .1 .1 .1 .1 .1 .1 .1 .1 .0)
 
   pub in-range : Ranged s l r → KindRanged s k → inRange s l r k ≡ true
   unfolding inRange every
@@ -67,5 +69,7 @@ module _ (s : List ℕ) (l : ℕ) (r : Registers) (k : Kind) where
         le-leb _ _ (f .counter-high),
         le-leb _ _ (f .routine-low),
         le-leb _ _ (f .routine-high),
+        le-leb _ _ (f .lowest-low),
+        le-leb _ _ (f .lowest-high),
         kind-test s k g,
       )

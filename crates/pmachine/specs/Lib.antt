@@ -8,5 +8,6 @@ pub mod Step
 pub mod Run
 pub mod Sound
 pub mod Kept
+pub mod Lowest
 pub mod Places
 pub mod Pushed

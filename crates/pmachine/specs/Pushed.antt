@@ -15,7 +15,7 @@ use Rattle.segment.specs.Head.{words, least, pool, realPool}
 use Rattle.pmachine.specs.State.{Registers, State}
 use Rattle.pmachine.specs.Decoding.{all, operands}
 use Rattle.pmachine.specs.Pool.{inPool, swaps, constantsOf, onTop, lowest, highest, inTable, armOffset}
-use Rattle.pmachine.specs.Step.{Outcome, fault, goes, moved, floor, caseTarget, judge}
+use Rattle.pmachine.specs.Step.{Outcome, fault, goes, moved, lowered, floor, caseTarget, judge}
 use Rattle.pmachine.specs.Run.{isReady, step}
 use Rattle.pmachine.specs.Sound.{Loaded}
 
@@ -34,7 +34,7 @@ pub record IsXjp (s : List ℕ) (at b next : ℕ) : Type 0 where
 abbrev pub ldcComes : List ℕ → Registers → ℕ → ℕ → ℕ → ℕ → Outcome
 ldcComes s r mode b n next =
     cond (inPool s b n)
-    (cond (leb (floor s + n) (r .sp)) (goes (moved r (r .sp - n) next) (r .sp - n) (onTop (constantsOf s mode b n))) (fault 4))
+    (cond (leb (floor s + n) (r .sp)) (goes (lowered (moved r (r .sp - n) next)) (r .sp - n) (onTop (constantsOf s mode b n))) (fault 4))
     (fault 6)
 
 abbrev pub LdcJudged : Type 0
@@ -49,9 +49,9 @@ xjpComes s r b next i =
     cond (inPool s b 2)
     (cond (inTable s b i)
     (cond (inPool s (armOffset s b i) 1)
-    (cond (inside 22 (length s) (caseTarget s b next i)) (goes (moved r (r .sp + 1) (caseTarget s b next i)) (r .sp + 1) []) (fault 7))
+    (cond (inside 22 (length s) (caseTarget s b next i)) (goes (lowered (moved r (r .sp + 1) (caseTarget s b next i))) (r .sp + 1) []) (fault 7))
     (fault 6))
-    (goes (moved r (r .sp + 1) next) (r .sp + 1) []))
+    (goes (lowered (moved r (r .sp + 1) next)) (r .sp + 1) []))
     (fault 6)
 
 -- "in the range W1 through W2", as integers
@@ -67,12 +67,13 @@ XjpJudged =
     → judge s shared w r ≡ cond (ltb (length w) (r .sp + 1)) (fault 3) (xjpComes s r b next (getD w (r .sp) 0))
 
 -- "Show once, over the count of words, what the stack then holds." Of LDC with any count n, from any state, that does not fault: read from SP upward the
--- stack is the n words, in the order that `onTop` fixes, and then the old stack; every word below is as it was; only SP, by n, and the counter moved.
+-- stack is the n words, in the order that `onTop` fixes, and then the old stack; every word below is as it was; only SP, by n, and the counter moved,
+-- and the lowest SP with SP.
 pub record Holds (s : List ℕ) (mode b n next : ℕ) (t u : State) : Type 0 where
   pub stack : drop (u .registers .sp) (u .words) ≡ onTop (constantsOf s mode b n) ++ drop (t .registers .sp) (t .words)
   pub below : take (u .registers .sp) (u .words) ≡ take (u .registers .sp) (t .words)
   pub count : u .registers .sp + n ≡ t .registers .sp
-  pub registers : u .registers ≡ moved (t .registers) (t .registers .sp - n) next
+  pub registers : u .registers ≡ lowered (moved (t .registers) (t .registers .sp - n) next)
 
 abbrev pub StackHolds : Type 0
 StackHolds =

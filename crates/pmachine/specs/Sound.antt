@@ -17,7 +17,8 @@ kindInRange s ready = true
 kindInRange s finished = true
 kindInRange s (faulted n place) = every (leb 1 n ∷ leb n 10 ∷ leb 22 place ∷ leb place (length s) ∷ [])
 
--- "6+G at most L, stack pointer in 6+G..L, record pointer in 1..L-5, counter in 22..2W, routine number in 1..n", and the kind
+-- "6+G at most L, stack pointer in 6+G..L, record pointer in 1..L-5, counter in 22..2W, routine number in 1..n"; request 3: "A sound bench now also
+-- has this mark in 6+G..SP"; and the kind
 unfoldable pub inRange : List ℕ → ℕ → Registers → Kind → Bool
 inRange s l r k =
     every
@@ -30,6 +31,8 @@ inRange s l r k =
     ∷ leb (r .counter) (length s)
     ∷ leb 1 (r .routine)
     ∷ leb (r .routine) (count s)
+    ∷ leb (floor s) (r .lowest)
+    ∷ leb (r .lowest) (r .sp)
     ∷ kindInRange s k
     ∷ [])
 
@@ -44,10 +47,12 @@ pub record Ranged (s : List ℕ) (l : ℕ) (r : Registers) : Type 0 where
   pub counter-high : r .counter ≤ length s
   pub routine-low : 1 ≤ r .routine
   pub routine-high : r .routine ≤ count s
+  pub lowest-low : floor s ≤ r .lowest
+  pub lowest-high : r .lowest ≤ r .sp
 
--- "Starting state: SP = L, record pointer M = 1, counter 2(e+1)"; opening "starts routine 1"
+-- "Starting state: SP = L, record pointer M = 1, counter 2(e+1)"; opening "starts routine 1"; request 3: "L at the start"
 unfoldable pub starting : List ℕ → ℕ → Registers
-starting s l = record { sp = l; m = 1; counter = start s 1; routine = 1 }
+starting s l = record { sp = l; m = 1; counter = start s 1; routine = 1; lowest = l }
 
 -- opening "sets every word of the region to zero"
 unfoldable pub opened : List ℕ → ℕ → State

@@ -3,12 +3,14 @@
 use Prim.Native.Nat.{ℕ}
 use mathlib.Core.List.{List}
 
--- "A session's registers are SP, M, the counter and the current routine number."
+-- "A session's registers are SP, M, the counter and the current routine number." Request 3: "The session record shall keep the lowest stack pointer
+-- reached since opening", and demand 3 "counts it among the registers".
 pub record Registers : Type 0 where
   pub sp : ℕ
   pub m : ℕ
   pub counter : ℕ
   pub routine : ℕ
+  pub lowest : ℕ
 
 -- "The three kinds of session are ready, finished and faulted (with fault number and place)."
 pub data Kind : Type 0 where

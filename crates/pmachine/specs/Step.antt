@@ -1,6 +1,6 @@
 -- One step: which check fails first, and what happens where none does. Document 01's "Addresses, stack and activation records",
 -- "The instructions carried" and "Faults". Above: Run; below: Decoding, and the header numbers and routines of `segment`.
-use Prim.Native.Nat.{ℕ, zero, suc, _+_, _-_, _*_, _%_}
+use Prim.Native.Nat.{ℕ, zero, suc, _+_, _-_, _*_, _%_, min}
 use mathlib.Core.List.{List, [], _∷_}
 use mathlib.Core.Bool.{Bool, true, false, _&&_, _||_, not, cond}
 use lib.ListN.{length, getD}
@@ -99,7 +99,17 @@ resumes s w mark sp =
 
 -- the same record and routine
 abbrev pub moved : Registers → ℕ → ℕ → Registers
-moved r sp next = record { sp = sp; m = r .m; counter = next; routine = r .routine }
+moved r sp next = record { sp = sp; m = r .m; counter = next; routine = r .routine; lowest = r .lowest }
+
+-- Request 3, "the lowest stack pointer reached since opening": SP after the step lowers it, here and nowhere else. "A step that faults doesn't move it":
+-- a fault and the return that finishes leave every register.
+abbrev pub lowered : Registers → Registers
+lowered q = record { sp = q .sp; m = q .m; counter = q .counter; routine = q .routine; lowest = min (q .lowest) (q .sp) }
+
+abbrev pub lowering : Outcome → Outcome
+lowering (goes q at ws) = goes (lowered q) at ws
+lowering finish = finish
+lowering (fault n) = fault n
 
 -- A check: the fault it gives, and whether it fails.
 infix 68 _when_
@@ -187,21 +197,22 @@ module _ (s shared w : List ℕ) (r : Registers) where
   effect sp next (jump-if b d) = goes (moved r sp (cond (eqb (stack 0 % 2) b) (target next d) next)) sp []
   effect sp next (case-jump b) = goes (moved r sp (cond (inTable s b (stack 0)) (caseTarget s b next (stack 0)) next)) sp []
   effect sp next (call p k) =
-      goes (record { sp = newRecord s sp k; m = newRecord s sp k; counter = start s k; routine = k })
+      goes (record { sp = newRecord s sp k; m = newRecord s sp k; counter = start s k; routine = k; lowest = r .lowest })
       (newRecord s sp k)
       (recordOf (link p) ∷ r .m ∷ next ∷ 1 ∷ r .routine ∷ [])
   effect sp next (return b) =
       cond (eqb (r .m) 1) finish
-      (goes (record { sp = r .m + 5 + b; m = getD mark 1 0; counter = getD mark 2 0; routine = getD mark 4 0 }) sp [])
+      (goes (record { sp = r .m + 5 + b; m = getD mark 1 0; counter = getD mark 2 0; routine = getD mark 4 0; lowest = r .lowest }) sp [])
 
   abbrev pub done : Instruction → Outcome
   done i = effect (r .sp + i .taken - i .given) (i .next) (i .does)
 
-  -- 3, "too few words on the stack"; 4, "SP after the step would lie below 6+G"; and what the meaning asks: the first that fails, in order
+  -- 3, "too few words on the stack"; 4, "SP after the step would lie below 6+G"; and what the meaning asks: the first that fails, in order. If none
+  -- does, it happens, and SP after it lowers the lowest.
   unfoldable pub outcome : Instruction → Outcome
   outcome i =
       firstFault order
-      (3 when ltb (length w) (r .sp + i .taken) ∷ 4 when below (floor s) (done i) ∷ asks (i .next) (i .does)) (done i)
+      (3 when ltb (length w) (r .sp + i .taken) ∷ 4 when below (floor s) (done i) ∷ asks (i .next) (i .does)) (lowering (done i))
 
   unfoldable pub judgedBy : Decoded → Outcome
   judgedBy (instruction i) = outcome i

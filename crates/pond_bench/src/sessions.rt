@@ -57,6 +57,7 @@ pub fn show(b: Bench, memory: &[u16], store: &[u8], book: &[u8], session: u64) -
     state(b, book, i);
     let cpu = se.cpu;
     registers(cpu.regs);
+    pond_look::deepest(b, store, se);
     faults::instruction(b, store, se);
     faults::reason(b, memory, store, se);
     Outcome::Done

@@ -35,11 +35,10 @@ pub fn closer(b: Bench, memory: &[u16], store: &[u8], session: u64) {
 }
 
 fn next(b: Bench, store: &[u8], se: Session) {
-    let sl = told::slot(b, se.slot);
     let cpu = se.cpu;
     let regs = cpu.regs;
     pond_say::text(b"next instruction:\n");
-    listing::line(bounds::code_of(store, sl.start, sl.len), regs.counter);
+    listing::line(told::code(b, store, se.slot), regs.counter);
 }
 
 fn calls(region: &[u16], se: Session) {

@@ -96,10 +96,9 @@ fn one(b: Bench, memory: &mut [u16], store: &[u8], i: usize) -> Stepped {
 }
 
 fn before(b: Bench, memory: &[u16], store: &[u8], se: Session) {
-    let sl = told::slot(b, se.slot);
     let cpu = se.cpu;
     let regs = cpu.regs;
-    listing::line(bounds::code_of(store, sl.start, sl.len), regs.counter);
+    listing::line(told::code(b, store, se.slot), regs.counter);
     pond_say::text(b"    stack, top first: ");
     top(memory, se);
 }

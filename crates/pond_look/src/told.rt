@@ -101,6 +101,12 @@ pub fn slot(b: Bench, i: usize) -> Slot {
     b.slots[i]
 }
 
+// The bytes of a slot.
+pub fn code(b: Bench, store: &[u8], slot_number: usize) -> &[u8] {
+    let sl = slot(b, slot_number);
+    bounds::code_of(store, sl.start, sl.len)
+}
+
 // The len words from base on, as many of them as there are.
 pub fn region(memory: &[u16], base: usize, len: usize) -> &[u16] {
     let end = past(base, len);

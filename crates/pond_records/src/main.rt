@@ -88,6 +88,7 @@ fn recorded(number: u8, place: usize) -> Session {
         m: 1,
         counter: 30,
         routine: 1,
+        lowest: 16,
     };
     Session::fresh(0, 4, 16, Cpu { kind, regs })
 }

@@ -185,11 +185,12 @@ fn went(b: Bench, memory: &mut [u16], book: &[u8], seg: &[u8], steps: u64) -> Ou
     ended(all.bench, memory, book, seg, all.steps)
 }
 
-// The fault's line is the last one, after the words.
+// How it ended, how deep its stack went, and its words; the fault's line is the last one.
 fn ended(b: Bench, memory: &[u16], book: &[u8], seg: &[u8], steps: u64) -> Outcome {
     let se = told::record(b, 0);
     turns::ended(book, 0, steps, se);
     faults::instruction(b, seg, se);
+    pond_look::deepest(b, seg, se);
     pond_look::words(b, memory, book, 0, Wanted::All);
     let o = faults::reason(b, memory, seg, se);
     turns::stopped(finished(o, se))

@@ -20,7 +20,7 @@ pub fn help(command: &[u8]) -> bool {
           turn FILE OUT                  writes the segment with the other byte sex to OUT\n\
           \x20 OUT is a new file, or a regular file that keeps its mode; a link, a folder, a device or a pipe is refused.\n\
           \x20 A file whose name is a number is given as ./0.\n\
-          run FILE [WORDS [STEPS]]       runs a segment on a bench of its own, and shows its words\n\
+          run FILE [WORDS [STEPS]]       runs a segment on a bench of its own: how it ended, how deep its stack went, and its words\n\
           \x20 run FILE [WORDS [STEPS]] with ARCHIVE: \
           the shared words are those of the file ARCHIVE. WORDS is 1000 if not given, or 250 more than the segment needs;\n\
           \x20 STEPS is 1000000000. A report that is not finished then is a failure.\n\
@@ -36,7 +36,9 @@ pub fn help(command: &[u8]) -> bool {
           turn SESSION STEPS             runs a session for so many steps, or until it finishes or faults\n\
           \x20 Ctrl-C ends it after the steps done so far.\n\
           step SESSION [N]               does one step, or N, and shows each instruction, with the stack before and behind it\n\
-          show SESSION                   its kind, region and registers, its next instruction and calls, and why it faulted\n\
+          show SESSION                   its kind, region and registers, how deep its stack went, its next instruction and calls, and why it faulted\n\
+          \x20 How deep: the lowest stack pointer, the words that the stack never reached, and the least region that would have been enough so far.\n\
+          \x20 After fault 4, a full stack, nothing of it is told: open the session with more words and run it again.\n\
           words SESSION [FROM [COUNT]]   its words, by its own addresses\n\
           save SESSION FILE              its words as text that a spreadsheet reads\n\
           shared [FROM [COUNT]]          the shared words\n\

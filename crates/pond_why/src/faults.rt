@@ -8,19 +8,13 @@ use pond_say::Outcome;
 use sound::Bench;
 use sound::Session;
 
-// The bytes of a slot.
-fn code(b: Bench, store: &[u8], slot: usize) -> &[u8] {
-    let sl = told::slot(b, slot);
-    bounds::code_of(store, sl.start, sl.len)
-}
-
 // The line of the instruction that faulted: a fault leaves the counter on it, and its place can be a byte further on.
 pub fn instruction(b: Bench, store: &[u8], se: Session) {
     let cpu = se.cpu;
     let regs = cpu.regs;
     let kind = cpu.kind;
     if let Kind::Faulted(_, _) = kind {
-        listing::line(code(b, store, se.slot), regs.counter);
+        listing::line(told::code(b, store, se.slot), regs.counter);
     }
 }
 
@@ -29,7 +23,7 @@ pub fn reason(b: Bench, memory: &[u16], store: &[u8], se: Session) -> Outcome {
     let cpu = se.cpu;
     let kind = cpu.kind;
     if let Kind::Faulted(number, place) = kind {
-        let seg = code(b, store, se.slot);
+        let seg = told::code(b, store, se.slot);
         let region = told::region(memory, se.base, se.len);
         line(seg, region, b.s, cpu.regs, number, place);
         return Outcome::Fault;

@@ -33,7 +33,7 @@ kindFrom finished = Finished
 kindFrom (faulted n place) = Faulted n place
 
 abbrev pub cpuFrom : Registers → Kinds → Cpu
-cpuFrom r k = record { kind = kindFrom k; regs = record { sp = r .sp; m = r .m; counter = r .counter; routine = r .routine } }
+cpuFrom r k = record { kind = kindFrom k; regs = record { sp = r .sp; m = r .m; counter = r .counter; routine = r .routine; lowest = r .lowest } }
 
 abbrev pub stateFrom : State → SessionState
 stateFrom t = record { words = t .words; cpu = cpuFrom (t .registers) (t .kind) }
@@ -44,7 +44,7 @@ floorOf code = floor code
 
 -- the registers of a record that is not used
 abbrev pub noCpu : Cpu
-noCpu = record { kind = Ready; regs = record { sp = 0; m = 0; counter = 0; routine = 0 } }
+noCpu = record { kind = Ready; regs = record { sp = 0; m = 0; counter = 0; routine = 0; lowest = 0 } }
 
 -- the registers at the start of routine 1
 unfoldable pub startOf : List ℕ → ℕ → Cpu

@@ -17,8 +17,8 @@ ghost use Rattle.pmachine.specs.State.{ready};
 ghost use Rattle.session.specs.Session.{cpuFrom, noCpu, startOf, kindOk, cpuOk, RanTo};
 
 // A session that is ready, at these registers: the one place of this crate that builds them.
-fn ready_at(sp: usize, m: usize, counter: usize, routine: usize) -> Cpu
-    ensures { λ r. ⌜ r ≡ cpuFrom (record { sp = sp; m = m; counter = counter; routine = routine }) ready ⌝ }
+fn ready_at(sp: usize, m: usize, counter: usize, routine: usize, lowest: usize) -> Cpu
+    ensures { λ r. ⌜ r ≡ cpuFrom (record { sp = sp; m = m; counter = counter; routine = routine; lowest = lowest }) ready ⌝ }
 {
     Cpu {
         kind: Kind::Ready,
@@ -27,6 +27,7 @@ fn ready_at(sp: usize, m: usize, counter: usize, routine: usize) -> Cpu
             m,
             counter,
             routine,
+            lowest,
         },
     }
 }
@@ -35,7 +36,7 @@ fn ready_at(sp: usize, m: usize, counter: usize, routine: usize) -> Cpu
 pub fn no_cpu() -> Cpu
     ensures { λ r. ⌜ r ≡ noCpu ⌝ }
 {
-    ready_at(0, 0, 0, 0)
+    ready_at(0, 0, 0, 0, 0)
 }
 
 // The registers of a session that has just been opened, with len words.
@@ -43,7 +44,7 @@ pub fn start_cpu(code: &[u8], len: usize) -> Cpu
     ensures { λ r. ⌜ r ≡ startOf (now (code .entry)) len ⌝ }
 {
     let first = segment::routine_of(code, 1);
-    ready_at(len, 1, first.start as usize, 1)
+    ready_at(len, 1, first.start as usize, 1, len)
 }
 
 fn kind_ok(code: &[u8], k: Kind) -> bool
@@ -72,8 +73,13 @@ pub fn cpu_ok(code: &[u8], len: usize, c: Cpu) -> bool
     let m = c.regs.m;
     let counter = c.regs.counter;
     let routine = c.regs.routine;
+    let lowest = c.regs.lowest;
     let k = c.kind;
-    let g = both(at_most(routine, head.count as usize), kind_ok(code, k));
+    let h = both(at_most(lowest, sp), kind_ok(code, k));
+    let g = both(
+        at_most(routine, head.count as usize),
+        both(at_most(low, lowest), h),
+    );
     let f = both(at_most(counter, code.len()), both(at_most(1, routine), g));
     let e = both(ends_by(m, 5, len), both(at_most(22, counter), f));
     let d = both(at_most(sp, len), both(at_most(1, m), e));

@@ -9,7 +9,7 @@ use lib.Seq.{length-take-le}
 use Rattle.basis.specs.Part.{part, splice}
 use Rattle.basis.proofs.Part.{length-part, splice-same}
 use Rattle.pmachine.specs.State.{Registers}
-use Rattle.pmachine.specs.Step.{Outcome, goes, floor, judge}
+use Rattle.pmachine.specs.Step.{Outcome, goes, floor, moved, judge}
 use Rattle.pmachine.specs.Sound.{Ranged}
 use Rattle.pmachine.proofs.Judged.{judge-goes}
 use Rattle.plan.specs.declared.Facts.{Facts}
@@ -19,6 +19,17 @@ use Rattle.plan.specs.Answer.{regsOf, outcomeOf}
 use Rattle.plan.specs.Told.{Ready}
 use Rattle.steps.specs.declared.Stepped.{Stepped}
 use Rattle.steps.specs.Memory.{Steady, Stood}
+
+-- ---- registers by methods one after the other
+
+pub moving : {q a b : Registers} {n : ℕ} → q ≡ moved a (a .sp) n → a ≡ b → q ≡ moved b (b .sp) n
+moving {n = n} e f = e ∙ ap (λ (x : Registers). moved x (x .sp) n) f
+
+pub entering : {q a b : Registers} {m k : ℕ} → q ≡ record { sp = a .sp; m = m; counter = a .counter; routine = k; lowest = a .lowest } → a ≡ b
+    → q ≡ record { sp = b .sp; m = m; counter = b .counter; routine = k; lowest = b .lowest }
+entering {m = m} {k = k} e f = e ∙ ap (λ (x : Registers). record { sp = x .sp; m = m; counter = x .counter; routine = k; lowest = x .lowest }) f
+
+-- ---- what was judged
 
 module _ {s m : List ℕ} {f : Facts} {at end j : ℕ} {r : Regs} (steady : Steady s f m at end j r) where
   wide : length (part at end m) ≡ end - at

@@ -6,7 +6,7 @@ use plan::Regs;
 ghost use mathlib.Core.Path.{_≡_};
 ghost use lib.ListN.{take};
 ghost use Rattle.basis.specs.Part.{part};
-ghost use Rattle.pmachine.specs.Step.{judge, moved as Step·moved};
+ghost use Rattle.pmachine.specs.Step.{judge};
 ghost use Rattle.plan.specs.Answer.{regsOf, outcomeOf};
 ghost use Rattle.steps.specs.Memory.{Steady, Stood};
 
@@ -33,18 +33,6 @@ fn judge_in(
     judge::judge(seg, facts, &mem[at..end], &mem[..s], r)
 }
 
-// The registers with another stack pointer and counter, in the same record and routine.
-fn moved(r: Regs, sp: usize, counter: usize) -> Regs
-    ensures { λ q. ⌜ regsOf q ≡ Step·moved (regsOf r) sp counter ⌝ }
-{
-    Regs {
-        sp,
-        m: r.m,
-        counter,
-        routine: r.routine,
-    }
-}
-
 pub fn step(
     mem: &mut [u16],
     at: usize,
@@ -58,38 +46,39 @@ pub fn step(
     ensures { λ q. ⌜ Stood (now (seg .entry)) (regsOf r) (judge (now (seg .entry)) (take s (now (mem .entry))) (part at end (now (mem .entry))) (regsOf r)) at end (now (mem .entry)) q (now (mem .exit)) ⌝ }
 {
     match judge_in(mem, at, end, s, seg, facts, r) {
-        Planned::Move(sp, next) => Stepped::Went(moved(r, sp, next)),
+        Planned::Move(sp, next) => Stepped::Went(r.pop(sp).move_counter(next)),
         Planned::Put(v, sp, next, place) => {
             commit::put_word(mem, at, end, place, v);
-            Stepped::Went(moved(r, sp, next))
+            Stepped::Went(r.pop(sp).move_counter(next))
         }
-        Planned::Top(v, sp, next) => {
+        Planned::Push(v, sp, next) => {
             commit::put_word(mem, at, end, sp, v);
-            Stepped::Went(moved(r, sp, next))
+            Stepped::Went(r.push(sp).move_counter(next))
+        }
+        Planned::One(v, next) => {
+            commit::put_word(mem, at, end, r.sp, v);
+            Stepped::Went(r.move_counter(next))
+        }
+        Planned::Two(v, next) => {
+            commit::put_word(mem, at, end, r.sp + 1, v);
+            Stepped::Went(r.pop(r.sp + 1).move_counter(next))
         }
         Planned::Swap(x, y, next) => {
             commit::put_pair(mem, at, end, r.sp, x, y);
-            Stepped::Went(moved(r, r.sp, next))
+            Stepped::Went(r.move_counter(next))
         }
         Planned::Call(parent, next, sp, counter, k) => {
             let mark = commit::mark(parent, r.m as u16, next, r.routine as u16);
             commit::put_mark(mem, at, end, sp, mark);
-            Stepped::Went(Regs {
-                sp,
-                m: sp,
-                counter,
-                routine: k,
-            })
+            Stepped::Went(r.push(sp).move_counter(counter).enter(sp, k))
         }
-        Planned::Back(sp, m, counter, routine) => Stepped::Went(Regs {
-            sp,
-            m,
-            counter,
-            routine,
-        }),
+        // where a mark was forged, a return can lower the stack pointer
+        Planned::Back(sp, m, counter, k) => {
+            Stepped::Went(r.push(sp).move_counter(counter).enter(m, k))
+        }
         Planned::Block(first, n, next, sex) => {
             commit::put_block(mem, at, end, r.sp, n, seg, first, sex);
-            Stepped::Went(moved(r, r.sp - n, next))
+            Stepped::Went(r.push(r.sp - n).move_counter(next))
         }
         // only a step that faults asks how far it fetched
         Planned::Bad(n) => Stepped::Stuck(n, instruction::place_of(seg, n, r.counter)),

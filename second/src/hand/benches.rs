@@ -1,7 +1,7 @@
 //! The entries: new bench, loading, opening, turns, closing; refusals 11 to 17
 //! with their orders.
 
-use super::{at_record, at_slot, fill_words, hand_segment, ready, set_bytes, Story, Table};
+use super::{at_record, at_slot, down_to, fill_words, hand_segment, ready, set_bytes, Story, Table};
 use crate::bench::{Record, Slot};
 use crate::generate::SMALL;
 use crate::machine::{Kind, Session};
@@ -17,6 +17,7 @@ pub fn fill(t: &mut Table) {
     the_lowest_gap(t);
     turns(t);
     shared_words(t);
+    the_last_shared_word(t);
     closing(t);
 }
 
@@ -259,7 +260,8 @@ fn shared_words(t: &mut Table) {
         .goes(Call::Open { slot: 0, length: 20 }, 0, |world| open(world, 0, 0, 4, 20, 34))
         .goes(Call::Open { slot: 0, length: 20 }, 1, |world| open(world, 1, 0, 24, 20, 34))
         .goes(Call::Turn { session: 1, k: 100 }, 4, |world| {
-            at_record(world, 1).session = Session { kind: Kind::Finished, ..ready(20, 1, 40, 1) };
+            let finished = Session { kind: Kind::Finished, ..ready(20, 1, 40, 1) };
+            at_record(world, 1).session = down_to(19, finished);
             // global 1, and the word popped, which keeps it
             fill_words(&mut world.memory, 24 + 6, &[1_234]);
             fill_words(&mut world.memory, 24 + 19, &[1_234]);
@@ -270,6 +272,35 @@ fn shared_words(t: &mut Table) {
             fill_words(&mut world.memory, 4 + 19, &[1_234]);
         })
         .end();
+}
+
+fn the_last_shared_word(t: &mut Table) {
+    t.says(r#""32,768+i is shared word i, for i below S"; "a sum above 65,535 faults": with S = 32,768 the last is 65,535"#);
+    // LDCI a base, then SIND0, SIND1 or IND 32,767
+    let lines: [(u16, &[u8], Option<u16>); 7] = [
+        (65_535, &[120], Some(1_234)), (65_534, &[121], Some(1_234)), (65_535, &[121], None), (65_534, &[120], Some(9)),
+        (32_768, &[230, 0xFF, 0xFF], Some(1_234)), (32_769, &[230, 0xFF, 0xFF], None), (65_535, &[230, 0xFF, 0xFF], None),
+    ];
+    for (base, code, word) in lines {
+        let mut world = empty(32_768, 32_784);
+        let [low, high] = base.to_le_bytes();
+        set_bytes(&mut world.store, 32 + 34, &[129, low, high]);
+        set_bytes(&mut world.store, 32 + 37, code);
+        world.memory[32_767] = 1_234;
+        in_slot(&mut world, 0, 32, 128);
+        open(&mut world, 0, 0, 32_768, 16, 34);
+        let next = 37 + code.len() as u64;
+        t.story(&format!("S = 32,768, {base} by {code:?}"), world)
+            .goes(Call::Turn { session: 0, k: 2 }, 2, |world| {
+                let bad = Kind::Faulted { number: 6, place: 37 };
+                at_record(world, 0).session = match word {
+                    Some(_) => ready(15, 1, next, 1),
+                    None => Session { kind: bad, ..ready(15, 1, 37, 1) },
+                };
+                fill_words(&mut world.memory, 32_768 + 15, &[word.unwrap_or(base)]);
+            })
+            .end();
+    }
 }
 
 fn closing(t: &mut Table) {

@@ -5,7 +5,7 @@
 use super::constants::wide;
 use super::cut::at_the_end;
 use super::marked::{faulted, opened, runs};
-use super::{at_record, ready, set_bytes, Rig, Table, RAN_OUT, STEP};
+use super::{at_record, down_to, ready, set_bytes, set_sp, Rig, Table, RAN_OUT, STEP};
 
 pub fn fill(t: &mut Table) {
     for most_first in [false, true] {
@@ -297,7 +297,8 @@ fn large_offsets(of: &mut Sexed) {
         set_bytes(&mut bytes, 30, &[index]); // SLDC
         set_bytes(&mut bytes, 31, code);
         let story = of.t.story(&format!("SLDC {index}, XJP {code:?}, W = 400"), opened(&bytes, 20, 30));
-        runs(story, 2, 2, ready(20, 1, counter, 1), &[(19, &[u16::from(index)])]).end();
+        let after = down_to(19, ready(20, 1, counter, 1));
+        runs(story, 2, 2, after, &[(19, &[u16::from(index)])]).end();
     }
     // 299: W1 is W-1, W2 is W
     for code in [&[5, 214, 0x81, 0x2B][..], &[5, 214, 0x81, 0x2C], &[5, 214, 0xFF, 0xFF]] {
@@ -331,7 +332,7 @@ fn the_longest_segment(of: &mut Sexed) {
         let mut bytes = longest(of.most_first, &one(by));
         set_bytes(&mut bytes, at as usize, &[214, 1]);
         let mut world = opened(&bytes, 16, at);
-        at_record(&mut world, 0).session.sp = 15;
+        set_sp(at_record(&mut world, 0), 15);
         world.memory[2 + 15] = 5;
         let story = of.t.story(&format!("W = 32,767, XJP 1 at {at}, by {by}"), world);
         match target {
@@ -347,7 +348,7 @@ fn the_longest_segment(of: &mut Sexed) {
         }
         set_bytes(&mut bytes, 200, &[214, 1]);
         let mut world = opened(&bytes, 16, 200);
-        at_record(&mut world, 0).session.sp = 15;
+        set_sp(at_record(&mut world, 0), 15);
         world.memory[2 + 15] = index as u16;
         let story = of.t.story(&format!("W = 32,767, W1 {least}, index {index}"), world);
         match target {

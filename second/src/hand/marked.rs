@@ -2,7 +2,7 @@
 //! here", as far as they are requests.
 
 use super::{
-    at_record, fill_words, hand_segment, most_first, ready, set_bytes, set_words, Story, Table,
+    at_record, down_to, fill_words, hand_segment, most_first, ready, set_bytes, set_words, Story, Table,
 };
 use crate::bench::{Record, Slot};
 use crate::generate::SMALL;
@@ -118,8 +118,9 @@ fn f_to_j(t: &mut Table) {
         t.says(sentence);
         let story = t.story(name, opened(&small_with(code), 16, 30));
         let after = ready(15, 1, 30 + code.len() as u64, 1);
+        let low = 16 - words.len();
         // a word popped keeps what it held
-        runs(story, k, k, after, &[(16 - words.len(), words)]).end();
+        runs(story, k, k, down_to(low as u64, after), &[(low, words)]).end();
     }
 }
 
@@ -191,7 +192,7 @@ fn its_own_mark(t: &mut Table) {
     set_bytes(&mut bytes, 34, &[144, 3]);
     set_bytes(&mut bytes, 102, &[132, 0, 3, 163, 128, 36, 196, 150, 0]);
     let story = t.story("MSDYN overwritten", opened(&bytes, 40, 34));
-    let after = faulted(ready(35, 35, 109, 3), 9);
+    let after = faulted(down_to(33, ready(35, 35, 109, 3)), 9);
     // the mark at 35, and what was pushed below it: 36, then M+1 (and a 3 before)
     runs(story, 50, 7, after, &[(35, &[1, 36, 36, 1, 1]), (33, &[36, 36])]).end();
 }
@@ -232,12 +233,12 @@ fn a_call_and_its_return(t: &mut Table) {
         (30, &[5]),                  // what SLDL4 pushed
         (6, &[5]),                   // global 1
     ];
-    runs(story, 5, 5, ready(40, 1, 37, 1), &words).end();
+    runs(story, 5, 5, down_to(30, ready(40, 1, 37, 1)), &words).end();
     // a most-first one calls alike
     let mut turned = bytes.clone();
     most_first(&mut turned);
     let story = t.story("the same most byte first", opened(&turned, 40, 34));
-    runs(story, 5, 5, ready(40, 1, 37, 1), &words).end();
+    runs(story, 5, 5, down_to(30, ready(40, 1, 37, 1)), &words).end();
     let story = t.story("step by step", opened(&bytes, 40, 34));
     let story = runs(story, 1, 1, ready(39, 1, 35, 1), &[(39, &[5])]);
     let story = runs(story, 1, 1, ready(31, 31, 82, 2), &[(31, &[1, 1, 37, 1, 1])]);

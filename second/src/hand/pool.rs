@@ -6,7 +6,9 @@ use super::benches::{close, in_slot, open};
 use super::marked::opened;
 use super::segments::{hand_numbers, hand_with};
 use super::unlinked::{swapped, unloaded};
-use super::{at_record, fill_words, hand_segment, most_first, ready, set_bytes, set_words, Table};
+use super::{
+    at_record, down_to, fill_words, hand_segment, most_first, ready, set_bytes, set_sp, set_words, Table,
+};
 use crate::generate::SMALL;
 use crate::machine::{Kind, Session};
 use crate::world::{Call, Judged, World, UNWRITTEN};
@@ -18,6 +20,7 @@ pub fn fill(t: &mut Table) {
     }
     the_shortest_and_the_longest(t);
     the_order_of_4(t);
+    pointers_outside(t);
     four_before_9(t);
     loading_judges_it(t);
     a_bench_with_units(t);
@@ -174,8 +177,16 @@ fn the_order_of_4(t: &mut Table) {
             t.refused(&format!("first word {first}, and word {word} {value}"), &bytes, number, place);
         }
     }
-    // a pointer outside has no first word: word 10 holds 1, word 64 is none
+}
+
+/// A pointer outside has no first word: word 10 holds 1, word 64 is none.
+fn pointers_outside(t: &mut Table) {
+    t.says(r#""4 pool pointer neither 0 nor 11..W-1"; 02, request 2: such a pointer leads to no first word"#);
     t.refused("pool pointer 10, word 10 is 1", &hand_with(&[(7, 10), (10, 1)]), 4, 0);
+    for first in [0, 7] {
+        let bytes = turned_with_first(10, first);
+        t.refused(&format!("pool pointer 10, word 10 is {first}, most byte first"), &bytes, 4, 0);
+    }
     t.refused("pool pointer 64", &hand_with(&[(7, 64)]), 4, 0);
     t.refused("pool pointer 65,535", &hand_with(&[(7, 65_535)]), 4, 0);
 }
@@ -293,7 +304,7 @@ fn sessions_on_one_pool(t: &mut Table) {
             fill_words(&mut world.memory, base + 6, &[3, second]);
             fill_words(&mut world.memory, base + length - 2, &[0x5678, 3]);
             let finished = Session { kind: Kind::Finished, ..ready(length as u64, 1, 41, 1) };
-            at_record(world, number).session = finished;
+            at_record(world, number).session = down_to(length as u64 - 2, finished);
         };
         t.story("two sessions on one report with units", opened(&units(most_first), 16, 34))
             .goes(Call::Turn { session: 0, k: 65_535 }, 23, |world| run(world, 0, 2, 16))
@@ -305,7 +316,7 @@ fn sessions_on_one_pool(t: &mut Table) {
             .end();
         // no room for two words: 6+G is 8, SP 9
         let mut world = opened(&units(most_first), 16, 43);
-        at_record(&mut world, 0).session.sp = 9;
+        set_sp(at_record(&mut world, 0), 9);
         let full = Session { kind: Kind::Faulted { number: 4, place: 43 }, ..ready(9, 1, 43, 1) };
         t.story("no room for the unit", world)
             .goes(Call::Turn { session: 0, k: 9 }, 1, |world| at_record(world, 0).session = full)

@@ -4,7 +4,7 @@
 use super::benches::{empty, in_slot, rigged};
 use super::pool::{turned_with_first, with_first};
 use super::segments::hand_with;
-use super::{at_record, ready, set_words, Table};
+use super::{at_record, ready, set_sp, set_words, Table};
 use crate::bench::{Record, Slot};
 use crate::machine::Kind;
 use crate::world::{Call, World};
@@ -226,6 +226,7 @@ fn soundness_of_regions(t: &mut Table) {
         world.bench.records[7] = world.bench.records[0];
         world.bench.records[7].open = false;
         world.bench.records[7].session.sp = 9_999;
+        world.bench.records[7].session.low = 9_999;
     });
 }
 
@@ -237,15 +238,16 @@ fn soundness_of_sessions(t: &mut Table) {
     unsound!(t, 0, |record| record.slot = WIDE + 2);
     still_sound!(t, 0, |record| record.slot = 15); // 30 is inside the other's code too
     // L
-    unsound!(t, 0, |record| { record.length = 15; record.session.sp = 15; });
-    still_sound!(t, 0, |record| { record.length = 16; record.session.sp = 16; });
-    unsound!(t, 0, |record| { record.length = 0; record.session.sp = 0; });
-    // SP in 6+G..L: small has 6..20, hand has 8..30
-    still_sound!(t, 0, |record| record.session.sp = 6);
-    unsound!(t, 0, |record| record.session.sp = 5);
+    unsound!(t, 0, |record| { record.length = 15; set_sp(record, 15); });
+    still_sound!(t, 0, |record| { record.length = 16; set_sp(record, 16); });
+    unsound!(t, 0, |record| { record.length = 0; set_sp(record, 0); });
+    // SP in 6+G..L: small has 6..20, hand has 8..30; the lowest SP is as SP, or
+    // it stays
+    still_sound!(t, 0, |record| set_sp(record, 6));
+    unsound!(t, 0, |record| set_sp(record, 5));
     unsound!(t, 0, |record| record.session.sp = 21);
-    still_sound!(t, 1, |record| record.session.sp = 8);
-    unsound!(t, 1, |record| record.session.sp = 7);
+    still_sound!(t, 1, |record| set_sp(record, 8));
+    unsound!(t, 1, |record| set_sp(record, 7));
     unsound!(t, 0, |record| record.session.sp = WIDE + 20);
     unsound!(t, 0, |record| record.session.sp = u64::MAX);
     // M in 1..L-5

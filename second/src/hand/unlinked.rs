@@ -4,7 +4,9 @@
 use super::benches::{close, in_slot, open};
 use super::marked::{faulted, opened, runs};
 use super::segments::{hand_numbers, hand_with, many};
-use super::{at_record, fill_words, hand_segment, ready, routine, set_bytes, set_words, Rig, Table};
+use super::{
+    at_record, down_to, fill_words, hand_segment, ready, routine, set_bytes, set_words, Rig, Table,
+};
 use crate::generate::SMALL;
 use crate::segment::Routine;
 use crate::world::{blank_bench, Call, Judged, World, UNWRITTEN};
@@ -481,7 +483,8 @@ fn every_call_in_a_run(t: &mut Table) {
     set_bytes(&mut bytes, 34, &[144, 2, 145, 3]);
     set_bytes(&mut bytes, 82, &[150, 3]);
     let story = t.story("after a call that returned", opened(&bytes, 30, 34));
-    runs(story, 40, 3, faulted(ready(30, 1, 36, 1), 8), &[(22, &[1, 1, 36, 1, 1])]).end();
+    let stopped = faulted(down_to(22, ready(30, 1, 36, 1)), 8);
+    runs(story, 40, 3, stopped, &[(22, &[1, 1, 36, 1, 1])]).end();
 }
 
 fn routine_255(t: &mut Table) {

@@ -1,7 +1,6 @@
 -- `plan_stack::give_one` meets its contract. Assumes nothing.
 use mathlib.Core.Path.{refl}
 use Rattle.plan.specs.Answer.{outcomeOf}
-use borrow.Author.Needs.{needs}
 use Rattle.plan_stack.proofs.give_one.Statement.{statement}
 use Rattle.plan_stack.proofs.give_one.Tie as tie
 

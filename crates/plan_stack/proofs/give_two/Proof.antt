@@ -1,7 +1,6 @@
 -- `plan_stack::give_two` meets its contract. Assumes nothing.
 use mathlib.Core.Path.{refl}
 use Rattle.plan.specs.Answer.{outcomeOf}
-use borrow.Author.Needs.{needs}
 use Rattle.plan_stack.proofs.give_two.Statement.{statement}
 use Rattle.plan_stack.proofs.give_two.Tie as tie
 
@@ -10,4 +9,4 @@ unfolding outcomeOf
 returns c = λ s. refl
 
 pub give-two-spec : {M : Type 1} → statement M
-give-two-spec = tie.close (tie.spec (λ c. search needs) returns)
+give-two-spec = tie.close (tie.spec returns)

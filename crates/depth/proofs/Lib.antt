@@ -1,0 +1,2 @@
+-- The proof of the theorem on the order of a region.
+pub mod Order
