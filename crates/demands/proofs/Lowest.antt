@@ -1,5 +1,5 @@
 -- The lowest stack pointer, from the machine's law to the record of a session on a bench. Above: Demands; below: Lowest of `pmachine`, promises, isolation.
-use Prim.Native.Nat.{ℕ, _≤_}
+use Prim.Native.Nat.{ℕ}
 use mathlib.Core.Path.{_≡_, refl, sym, ap, _∙_}
 use mathlib.Core.List.{List}
 use mathlib.Core.Logic.{_⊎_, ⊎-elim, inl, inr}

@@ -14,7 +14,7 @@ use Rattle.pmachine.specs.Decoding.{Decoded, instruction, faulty, decode
 use Rattle.pmachine.specs.Step.{Outcome, fault, finish, goes, lowering, effect, outcome, judgedBy, judge}
 use Rattle.pmachine.specs.Run.{isReady, settled, step, run}
 use Rattle.pmachine.specs.Sound.{Ranged, starting, opened}
-use Rattle.pmachine.specs.Lowest.{StepLowest, Reached, Least, RunLowest, Deepest, FreshLowest, OpeningLowest, withLowest, SoundLowest}
+use Rattle.pmachine.specs.Lowest.{StepLowest, Reached, RunLowest, Deepest, FreshLowest, OpeningLowest, withLowest, SoundLowest}
 use Rattle.pmachine.proofs.Ranges.{ranged, kind-ranged, in-range}
 use Rattle.pmachine.proofs.Rows.{either-way}
 use Rattle.pmachine.proofs.Judged.{first-holds}

@@ -1,8 +1,8 @@
 -- One step: which check fails first, and what happens where none does. Document 01's "Addresses, stack and activation records",
 -- "The instructions carried" and "Faults". Above: Run; below: Decoding, and the header numbers and routines of `segment`.
-use Prim.Native.Nat.{ℕ, zero, suc, _+_, _-_, _*_, _%_, min}
+use Prim.Native.Nat.{ℕ, zero, suc, _+_, _-_, _%_, min}
 use mathlib.Core.List.{List, [], _∷_}
-use mathlib.Core.Bool.{Bool, true, false, _&&_, _||_, not, cond}
+use mathlib.Core.Bool.{Bool, false, _&&_, _||_, not, cond}
 use lib.ListN.{length, getD}
 use lib.Dec.{ltb, leb, eqb}
 use Rattle.basis.specs.Bools.{inside}

@@ -10,7 +10,6 @@ use Rattle.pmachine.specs.State.{Registers, Kind as Kinds, ready, finished, fau
 use Rattle.pmachine.specs.Step.{floor}
 use Rattle.pmachine.specs.Sound.{kindInRange, inRange, starting}
 use Rattle.pmachine.specs.Run.{run, stepsDone}
-use Rattle.plan.specs.declared.Regs.{Regs}
 use Rattle.plan.specs.Answer.{regsOf}
 use Rattle.machine.specs.declared.Kind.{Kind}
 use Rattle.machine.specs.declared.Kind.the-variants.{Ready, Finished, Faulted}
