@@ -166,6 +166,18 @@ impl Story<'_> {
         self.refuses_at(call, number, 0)
     }
 
+    /// 11 before all else: every entry on an unsound bench, also where 12, 13, 16 or 17 would follow.
+    fn unsound_everywhere(self) -> Self {
+        self.refuses(Call::Load { slot: 0, start: 0, length: 32 }, 11)
+            .refuses(Call::Load { slot: 99, start: 1, length: 0 }, 11)
+            .refuses(Call::Open { slot: 2, length: 16 }, 11)
+            .refuses(Call::Open { slot: 99, length: 0 }, 11)
+            .refuses(Call::Turn { session: 0, k: 1 }, 11)
+            .refuses(Call::Turn { session: 99, k: 65_536 }, 11)
+            .refuses(Call::Close { session: 0 }, 11)
+            .refuses(Call::Close { session: 99 }, 11)
+    }
+
     fn sound(self, sound: bool) -> Self {
         self.asks(Request::Sound, Answer::Sound(sound))
     }

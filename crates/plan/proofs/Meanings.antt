@@ -1,6 +1,7 @@
 -- The definition's outcome of an instruction, meaning by meaning, is what the helpers answer.
 -- Above: Arms, from the helpers' promises to the outcome; below: Step of `pmachine`, and Answer.
 use Prim.Native.Nat.{ℕ, _+_, _-_, _%_, _<_, _≤_, min}
+use native.Mathlib.Nat.{min-eq-left}
 use native.Mathlib.Omega.{arith}
 use mathlib.Core.Path.{_≡_, refl}
 use mathlib.Core.List.{List, [], _∷_}
@@ -134,6 +135,10 @@ module _ (w shared : List ℕ) (base i : ℕ) (small : length w ≤ 32768) (few 
             lt-ltb (base + i) (32768 + length shared) (omega arith),
           )
 
+-- a step that takes SP d words up, or leaves it, leaves the lowest
+pub stays : {s : List ℕ} {l : ℕ} {r : Registers} → Ranged s l r → (d : ℕ) → min (r .lowest) (r .sp + d) ≡ r .lowest
+stays h d = omega (arith, h .lowest-high)
+
 -- ---- meaning by meaning
 
 module _ (s shared w : List ℕ) (r : Registers) (h : Ranged s (length w) r) (small : length w ≤ 32768) (n : ℕ) where
@@ -179,16 +184,6 @@ module _ (s shared w : List ℕ) (r : Registers) (h : Ranged s (length w) r) (sm
   dry2 : ltb (r .sp + 2) (floor s) ≡ false
   dry2 = le-ltb (r .sp + 2) (floor s) (omega (arith, h .sp-low))
 
-  -- a step that does not bring SP lower leaves the lowest
-  stays : min (r .lowest) (r .sp) ≡ r .lowest
-  stays = omega (arith, h .lowest-high)
-
-  stays1 : min (r .lowest) (r .sp + 1) ≡ r .lowest
-  stays1 = omega (arith, h .lowest-high)
-
-  stays2 : min (r .lowest) (r .sp + 2) ≡ r .lowest
-  stays2 = omega (arith, h .lowest-high)
-
   pub few-words : (m : Meaning) (t g : ℕ) → length w < r .sp + t → outcome s shared w r (instr m t g n) ≡ fault 3
   unfolding outcome groundFor firstFault
   few-words m t g k = rw (lt-ltb (length w) (r .sp + t) k)
@@ -203,26 +198,26 @@ module _ (s shared w : List ℕ) (r : Registers) (h : Ranged s (length w) r) (sm
 
   pub is-nothing : outcome s shared w r (instr nothing 0 0 n) ≡ goes (moved r (r .sp) n) (r .sp) []
   unfolding outcome asks effect groundFor firstFault
-  is-nothing = rw (fits, none-none, dry, stays)
+  is-nothing = rw (fits, none-none, dry, min-eq-left (h .lowest-high))
 
   pub is-swap : r .sp + 2 ≤ length w
       → outcome s shared w r (instr swap 2 2 n) ≡ goes (moved r (r .sp) n) (r .sp) (getD w (r .sp + 1) 0 ∷ getD w (r .sp) 0 ∷ [])
   unfolding outcome asks effect groundFor firstFault
-  is-swap k = rw (le-ltb (length w) (r .sp + 2) k, two-two, dry, plus0, stays)
+  is-swap k = rw (le-ltb (length w) (r .sp + 2) k, two-two, dry, plus0, min-eq-left (h .lowest-high))
 
   pub is-unary : (f : ℕ → ℕ) → r .sp + 1 ≤ length w → outcome s shared w r (instr (unary f) 1 1 n) ≡ one r n (f (getD w (r .sp) 0))
   unfolding outcome asks effect groundFor firstFault
-  is-unary f k = rw (le-ltb (length w) (r .sp + 1) k, one-one, dry, plus0, stays)
+  is-unary f k = rw (le-ltb (length w) (r .sp + 1) k, one-one, dry, plus0, min-eq-left (h .lowest-high))
 
   pub is-binary : (f : ℕ → ℕ → ℕ) → r .sp + 2 ≤ length w
       → outcome s shared w r (instr (binary f) 2 1 n) ≡ two r n (f (getD w (r .sp + 1) 0) (getD w (r .sp) 0))
   unfolding outcome asks effect groundFor firstFault
-  is-binary f k = rw (le-ltb (length w) (r .sp + 2) k, two-one, dry1, plus0, stays1)
+  is-binary f k = rw (le-ltb (length w) (r .sp + 2) k, two-one, dry1, plus0, stays h 1)
 
   pub is-division : (f : ℕ → ℕ → ℕ) → r .sp + 2 ≤ length w
       → outcome s shared w r (instr (division f) 2 1 n) ≡ divided f r n (getD w (r .sp + 1) 0) (getD w (r .sp) 0)
   unfolding outcome asks effect groundFor firstFault divided
-  is-division f k = rw (le-ltb (length w) (r .sp + 2) k, two-one, dry1, plus0, stays1)
+  is-division f k = rw (le-ltb (length w) (r .sp + 2) k, two-one, dry1, plus0, stays h 1)
 
   -- a word of a record that is found
   module _ (p : Whose) (rec a : ℕ) (e : reached w (r .m) p ≡ reaches rec) where
@@ -239,7 +234,7 @@ module _ (s shared w : List ℕ) (r : Registers) (h : Ranged s (length w) r) (sm
 
     pub is-store : r .sp + 1 ≤ length w → outcome s shared w r (instr (store p a) 1 0 n) ≡ stored w r rec a n
     unfolding outcome asks effect groundFor firstFault stored
-    is-store k = rw (le-ltb (length w) (r .sp + 1) k, one-none, e, within, dry1, plus0, stays1)
+    is-store k = rw (le-ltb (length w) (r .sp + 1) k, one-none, e, within, dry1, plus0, stays h 1)
 
   -- a bad link
   module _ (p : Whose) (a : ℕ) (e : reached w (r .m) p ≡ broken) where
@@ -281,7 +276,7 @@ module _ (s shared w : List ℕ) (r : Registers) (h : Ranged s (length w) r) (sm
             two-none,
             dry2,
             plus0,
-            stays2,
+            stays h 2,
           )
 
   pub is-subrange : r .sp + 3 ≤ length w → outcome s shared w r (instr subrange 3 1 n) ≡ checked w r n
@@ -290,7 +285,7 @@ module _ (s shared w : List ℕ) (r : Registers) (h : Ranged s (length w) r) (sm
     where
       go : (x : Bool) → eqb (leqOf (getD w (r .sp + 1) 0) (getD w (r .sp + 2) 0)) 1 ≡ x
           → (y : Bool) → eqb (leqOf (getD w (r .sp + 2) 0) (getD w (r .sp) 0)) 1 ≡ y → outcome s shared w r (instr subrange 3 1 n) ≡ checked w r n
-      go true e true f = rw (le-ltb (length w) (r .sp + 3) k, plus0, e, f, three-one, dry2, stays2)
+      go true e true f = rw (le-ltb (length w) (r .sp + 3) k, plus0, e, f, three-one, dry2, stays h 2)
       go true e false f = rw (le-ltb (length w) (r .sp + 3) k, plus0, e, f)
       go false e y f = rw (le-ltb (length w) (r .sp + 3) k, plus0, e)
 
@@ -299,7 +294,7 @@ module _ (s shared w : List ℕ) (r : Registers) (h : Ranged s (length w) r) (sm
   is-jump d = go _ refl
     where
       go : (b : Bool) → inside 22 (length s) (target n d) ≡ b → outcome s shared w r (instr (jump d) 0 0 n) ≡ jumped (length s) r (r .sp) n d
-      go true e = rw (fits, jumped-is (length s) r (r .sp) n d, e, none-none, dry, stays)
+      go true e = rw (fits, jumped-is (length s) r (r .sp) n d, e, none-none, dry, min-eq-left (h .lowest-high))
       go false e = rw (fits, jumped-is (length s) r (r .sp) n d, e)
 
   pub is-branch : (want d : ℕ) → r .sp + 1 ≤ length w → outcome s shared w r (instr (jump-if want d) 1 0 n) ≡ branched w (length s) r want n d
@@ -308,9 +303,9 @@ module _ (s shared w : List ℕ) (r : Registers) (h : Ranged s (length w) r) (sm
     where
       go : (x : Bool) → eqb (getD w (r .sp) 0 % 2) want ≡ x → (b : Bool) → inside 22 (length s) (target n d) ≡ b
           → outcome s shared w r (instr (jump-if want d) 1 0 n) ≡ branched w (length s) r want n d
-      go false q b e = rw (le-ltb (length w) (r .sp + 1) k, plus0, q, one-none, dry1, stays1)
+      go false q b e = rw (le-ltb (length w) (r .sp + 1) k, plus0, q, one-none, dry1, stays h 1)
       go true q false e = rw (le-ltb (length w) (r .sp + 1) k, plus0, q, jumped-is (length s) r (r .sp + 1) n d, e)
-      go true q true e = rw (le-ltb (length w) (r .sp + 1) k, plus0, q, jumped-is (length s) r (r .sp + 1) n d, e, one-none, dry1, stays1)
+      go true q true e = rw (le-ltb (length w) (r .sp + 1) k, plus0, q, jumped-is (length s) r (r .sp + 1) n d, e, one-none, dry1, stays h 1)
 
   pub is-index : (i : ℕ) → length shared ≤ 32768 → r .sp + 1 ≤ length w
       → outcome s shared w r (instr (index i) 1 1 n) ≡ gives r n (readAt w shared (getD w (r .sp) 0) i)
@@ -319,7 +314,7 @@ module _ (s shared w : List ℕ) (r : Registers) (h : Ranged s (length w) r) (sm
     where
       go : (b : Bool) → readable w shared (getD w (r .sp) 0) i ≡ b
           → outcome s shared w r (instr (index i) 1 1 n) ≡ gives r n (readAt w shared (getD w (r .sp) 0) i)
-      go true e = rw (le-ltb (length w) (r .sp + 1) k, plus0, read-is w shared (getD w (r .sp) 0) i small g, e, one-one, dry, stays)
+      go true e = rw (le-ltb (length w) (r .sp + 1) k, plus0, read-is w shared (getD w (r .sp) 0) i small g, e, one-one, dry, min-eq-left (h .lowest-high))
       go false e = rw (le-ltb (length w) (r .sp + 1) k, plus0, read-is w shared (getD w (r .sp) 0) i small g, e)
 
   pub is-call : (p : Whose) (rec k : ℕ) → reached w (r .m) p ≡ reaches rec

@@ -1,5 +1,5 @@
 -- The definition's outcome of LDC and of XJP is what the helpers answer. Above: Arms; below: Pushed of `pmachine`, Meanings, and Mirror.
-use Prim.Native.Nat.{ℕ, _+_, _≤_, min}
+use Prim.Native.Nat.{ℕ, _+_, _≤_}
 use native.Mathlib.Omega.{arith}
 use mathlib.Core.Path.{_≡_, refl, sym, _∙_}
 use mathlib.Core.List.{List}
@@ -23,7 +23,7 @@ use Rattle.plan.specs.declared.Case.the-variants.{By, On, Unread}
 use Rattle.plan.specs.Mirror.{wordsAt, sexBy, blocked, caseAt, chosen}
 use Rattle.plan.specs.Told.{sexOf, Told}
 use Rattle.plan.proofs.Links.{word-told}
-use Rattle.plan.proofs.Meanings.{instr, jumped-is}
+use Rattle.plan.proofs.Meanings.{instr, jumped-is, stays}
 
 -- the sex in which LDC's words are read, as a number
 sex-by : (s : List ℕ) (mode : ℕ) → eqb (sexBy (sexOf (least s)) mode) 0 ≡ not (swaps s mode)
@@ -70,9 +70,6 @@ module _ (s shared w : List ℕ) (r : Registers) (h : Ranged s (length w) r) (n 
   unfolding inTable armOffset caseTarget chosen caseAt
   case-found b i = go _ refl _ refl _ refl _ refl
     where
-      stays1 : min (r .lowest) (r .sp + 1) ≡ r .lowest
-      stays1 = omega (arith, h .lowest-high)
-
       two : inPool s b 2 ≡ leb (pool s + b + 2) (realPool s)
       two = in-pool s b 2 (omega arith)
 
@@ -87,8 +84,8 @@ module _ (s shared w : List ℕ) (r : Registers) (h : Ranged s (length w) r) (n 
           → (u : Bool) → leb (realPool s) (pool s + b + 2 + subOf i (word s (pool s + b))) ≡ u
           → xjpComes s r b n i ≡ chosen (length s) r n (caseAt s i b)
       go true d y e z f u g = rw (two, d, lt-leb (pool s + b + 2) (realPool s) (ltb-true _ _ d))
-      go false d false e z f u g = rw (two, d, e, le-leb (pool s + b + 2) (realPool s) (ltb-false _ _ d), stays1)
-      go false d true e false f u g = rw (two, d, e, f, le-leb (pool s + b + 2) (realPool s) (ltb-false _ _ d), stays1)
+      go false d false e z f u g = rw (two, d, e, le-leb (pool s + b + 2) (realPool s) (ltb-false _ _ d), stays h 1)
+      go false d true e false f u g = rw (two, d, e, f, le-leb (pool s + b + 2) (realPool s) (ltb-false _ _ d), stays h 1)
       go false d true e true f true g =
           let past = leb-true (realPool s) (pool s + b + 2 + subOf i (word s (pool s + b))) g in
           let none = lt-leb (pool s + b + 2 + subOf i (word s (pool s + b)) + 1) (realPool s) (omega arith) in
@@ -97,7 +94,7 @@ module _ (s shared w : List ℕ) (r : Registers) (h : Ranged s (length w) r) (n 
           let before = leb-false (realPool s) (pool s + b + 2 + subOf i (word s (pool s + b))) g in
           let there = le-leb (pool s + b + 2 + subOf i (word s (pool s + b)) + 1) (realPool s) (omega arith) in
           let lands = jumped-is (length s) r (r .sp + 1) n (word s (pool s + b + 2 + subOf i (word s (pool s + b)))) in
-          rw (two, d, e, f, g, le-leb (pool s + b + 2) (realPool s) (ltb-false _ _ d), arm, there, sum, lands, stays1)
+          rw (two, d, e, f, g, le-leb (pool s + b + 2) (realPool s) (ltb-false _ _ d), arm, there, sum, lands, stays h 1)
 
   pub is-case : (b : ℕ) → r .sp + 1 ≤ length w → outcome s shared w r (instr (case-jump b) 1 0 n) ≡ chosen (length s) r n (caseAt s (getD w (r .sp) 0) b)
   is-case b k = xjp-outcome s shared w r b n (h .sp-low) ∙ rw (le-ltb (length w) (r .sp + 1) k) (case-found b (getD w (r .sp) 0))

@@ -176,16 +176,9 @@ fn unsound_for_every_entry(t: &mut Table) {
         for kind in [Kind::Ready, Kind::Finished, FULL] {
             // session 1 is unsound, whichever is asked
             t.story(&format!("lowest SP {low}, each entry"), marked(20, low, kind))
-                .refuses(Call::Load { slot: 0, start: 0, length: 32 }, 11)
-                .refuses(Call::Load { slot: 99, start: 1, length: 0 }, 11)
-                .refuses(Call::Open { slot: 2, length: 16 }, 11)
-                .refuses(Call::Open { slot: 99, length: 0 }, 11)
-                .refuses(Call::Turn { session: 0, k: 1 }, 11)
+                .unsound_everywhere()
                 .refuses(Call::Turn { session: 1, k: 1 }, 11)
-                .refuses(Call::Turn { session: 99, k: 65_536 }, 11)
-                .refuses(Call::Close { session: 0 }, 11)
                 .refuses(Call::Close { session: 1 }, 11)
-                .refuses(Call::Close { session: 99 }, 11)
                 .goes(Call::New { shared: 0, words: 5 }, 0, |world| {
                     world.bench = blank_bench();
                     world.bench.words = 5;

@@ -7,7 +7,7 @@ use super::segments::hand_with;
 use super::{at_record, ready, set_sp, set_words, Table};
 use crate::bench::{Record, Slot};
 use crate::machine::Kind;
-use crate::world::{Call, World};
+use crate::world::World;
 
 /// What is lost where a number is cut to 32 bits.
 const WIDE: u64 = 1 << 32;
@@ -57,16 +57,7 @@ fn changed(t: &mut Table, change: &str, make: impl FnOnce(&mut World), sound: bo
     if sound {
         return story.end();
     }
-    story
-        .refuses(Call::Load { slot: 0, start: 0, length: 32 }, 11)
-        .refuses(Call::Load { slot: 99, start: 1, length: 0 }, 11)
-        .refuses(Call::Open { slot: 2, length: 16 }, 11)
-        .refuses(Call::Open { slot: 99, length: 0 }, 11)
-        .refuses(Call::Turn { session: 0, k: 1 }, 11)
-        .refuses(Call::Turn { session: 99, k: 65_536 }, 11)
-        .refuses(Call::Close { session: 0 }, 11)
-        .refuses(Call::Close { session: 99 }, 11)
-        .end();
+    story.unsound_everywhere().end();
 }
 
 fn soundness_of_sizes(t: &mut Table) {
