@@ -1,8 +1,9 @@
 #!/usr/bin/env python3
-# Makes the example files beside it (small.seg is document 01's and is not made): two farms' reports on a shared archive, the two reports
-# of the spring accident, a mean that divides by the number of readings, a report with a routine that was never linked, a segment that is refused, a
-# report that finds the units of its readings in a constant pool, in both byte sexes, a report that calls itself, and one that keeps a number by its address.
-# `make-examples.py --demo` prints the bytes that stand as constants in crates/pond_run/src/farms.rt.
+# Makes the example files beside it (small.seg is document 01's and is not made): an archive of two farms' records as a spreadsheet exports it, the same in a
+# wrong order, as text and as bytes, the farms' reports on it, a report that takes one record too many, the two reports of the spring accident, a mean that divides by the number of readings, a report with a
+# routine that was never linked, a segment that is refused, a report that finds the units of its readings in a constant pool, in both byte sexes, a report that
+# calls itself, and one that keeps a number by its address.
+# `make-examples.py --demo` prints the bytes that stand as constants in crates/pond_demo/src/bytes.rt.
 import os
 import sys
 
@@ -28,10 +29,16 @@ def segment(name, datasize, code, sex=LEAST):
     return out
 
 
+# A record is four words: farm, pond, day, concentration. A report that is opened for its farm finds its first record at the first address of its window.
+WINDOW = 32768
+RECORD = 4
+CONCENTRATION = 3
+
+
 # Globals: 1 sum, 2 highest, 3 count and then mean, 4 address of the next reading, 5 scrap.
-def report(first):
-    """The sum, the highest and the mean of four readings from shared word `first` on."""
-    address = 32768 + first
+def report():
+    """The sum, the highest and the mean of the concentrations of four records, the first at word 0 of the window."""
+    address = WINDOW + CONCENTRATION
     start = [0x81, address % 256, address // 256, 0xA5, 4]      # LDCI address, SRO 4
     loop = [
         0x33, 0x78,             # SLDO4 SIND0: the reading
@@ -40,7 +47,7 @@ def report(first):
         0xF1, 4,                # TJP: then it is dropped
         0xA5, 2, 0x8A, 2,       # SRO 2, UJP: else it is the highest
         0xA5, 5,                # SRO 5
-        0x33, 0xED, 0xA5, 4,    # SLDO4 INCI SRO 4: the next address
+        0x33, RECORD, 0xA2, 0xA5, 4,    # SLDO4 SLDC4 ADI SRO 4: the next record
         0x32, 0xED, 0xE2, 0xA5, 3,   # SLDO3 INCI DUP1 SRO 3: one more
         0x04, 0xB0,             # SLDC4 EQUI: all four?
     ]
@@ -173,14 +180,30 @@ assert YOUNG[-1] == len(OLDER)
 
 KEPT = [0x81, 20, 0, 0x07, 0xC4, 0x96, 0]                       # LDCI 20 SLDC7 STO RPU 0: a 7 in word 20
 
-STALE = 46
-READS = [0x81, STALE, 0, 0x78, 0xA5, 1, 0x96, 0]                # LDCI 46 SIND0 SRO 1 RPU 0
-WRITES = [0x81, STALE, 0, 0x00, 0xC4, 0x96, 0]                  # LDCI 46 SLDC0 STO RPU 0
-ARCHIVE = [12, 15, 11, 18, 31, 29, 40, 35]
+# The concentration of the record behind the four of the farm: LDCI SIND0 SRO 1 RPU 0
+FIFTH = WINDOW + 4 * RECORD + CONCENTRATION
+BEYOND = [0x81, FIFTH % 256, FIFTH // 256, 0x78, 0xA5, 1, 0x96, 0]
+
+STALE = 70
+READS = [0x81, STALE, 0, 0x78, 0xA5, 1, 0x96, 0]                # LDCI 70 SIND0 SRO 1 RPU 0
+WRITES = [0x81, STALE, 0, 0x00, 0xC4, 0x96, 0]                  # LDCI 70 SLDC0 STO RPU 0
+
+# North is farm 12, South is farm 17; each has two ponds
+RECORDS = [(12, 1, 1, 12), (12, 1, 2, 15), (12, 2, 1, 11), (12, 2, 2, 18), (17, 1, 1, 31), (17, 1, 2, 29), (17, 2, 1, 40), (17, 2, 2, 35)]
+UNSORTED = RECORDS[:3] + RECORDS[4:] + RECORDS[3:4]
+
+
+def sheet(records):
+    return ('farm,pond,day,concentration\n' + ''.join(','.join(map(str, record)) + '\n' for record in records)).encode()
+
 
 FILES = {
-    'north.seg': segment('NORTH', 5, report(0)),
-    'south.seg': segment('SOUTH', 5, report(4), MOST),
+    'farms.csv': sheet(RECORDS),
+    'unsorted.csv': sheet(UNSORTED),
+    'unsorted.words': b''.join(w.to_bytes(2, LEAST) for record in UNSORTED for w in record),
+    'north.seg': segment('NORTH', 5, report()),
+    'south.seg': segment('SOUTH', 5, report(), MOST),
+    'beyond.seg': segment('BEYOND', 1, BEYOND),
     'reads.seg': segment('READS', 5, READS),
     'writes.seg': segment('WRITES', 5, WRITES),
     'mean.seg': segment('MEAN', 1, MEAN),
@@ -194,14 +217,13 @@ FILES = {
     'by-address.seg': segment('ADDRESS', 1, KEPT),
     'empty.words': bytes(4),
     'units.words': b''.join(w.to_bytes(2, LEAST) for w in KINDS),
-    'archive.words': b''.join(w.to_bytes(2, LEAST) for w in ARCHIVE),
 }
 
 if __name__ == '__main__':
     here = os.path.dirname(os.path.abspath(__file__))
     if '--demo' in sys.argv:
-        print(list(b''.join(FILES[name] for name in ['north.seg', 'south.seg', 'reads.seg', 'writes.seg'])))
-        print(list(FILES['archive.words']))
+        print(list(b''.join(FILES[name] for name in ['north.seg', 'south.seg', 'beyond.seg', 'reads.seg', 'writes.seg'])))
+        print(FILES['farms.csv'])
     else:
         for name, data in FILES.items():
             with open(os.path.join(here, name), 'wb') as f:

@@ -1,4 +1,5 @@
-/* Times the entries of a bench, on a small one and on full ones: ns a request, the least of many runs. speed/entries builds and runs it.
+/* Times the entries of a bench, on a small one and on full ones, and those of its archive: ns a request, the least of many runs. speed/entries builds and
+   runs it.
    A run builds a bench and asks it the same request ROUNDS times; the time of a run that only builds is taken off. A new entry is one row of
    REQUEST here and one arm of `ask` in crate export_bench, which has the numbers of the requests. */
 #include "programs.h"
@@ -8,8 +9,11 @@
 /* The proved entries: a slice is a pointer and then a length. It answers how many requests were not refused. */
 extern uint64_t bench_asked(uint16_t *memory, uint64_t words, const uint8_t *store, uint64_t bytes, uint64_t slots, uint64_t sessions,
     uint64_t len, uint64_t what, uint64_t n, uint64_t rounds);
+/* The same of an archive, which is the memory's first `shared` words: crate export_archive. */
+extern uint64_t archive_asked(uint16_t *memory, uint64_t words, const uint8_t *store, uint64_t bytes, uint64_t shared, uint64_t what, uint64_t farm,
+    uint64_t rounds);
 
-enum { LEN = 1000, WORDS = 16 * LEN, ROUNDS = 200, RUNS = 40 };
+enum { LEN = 1000, WORDS = 16 * LEN, SHARED = 32768, FARMS = 12, ROUNDS = 200, RUNS = 40 };
 /* What is asked, with its number and its operand; `fills` says which the request needs one of: a slot or a session. */
 enum { NOTHING, SLOT, SESSION };
 static const struct { const char *name; uint64_t what, n; int fills; } REQUEST[] = {
@@ -20,7 +24,12 @@ static const struct { const char *name; uint64_t what, n; int fills; } REQUEST[]
 static const struct { uint32_t slots, routines, sessions; } BENCH[] = { { 1, 10, 1 }, { 16, 20, 16 }, { 16, 100, 16 }, { 16, 255, 16 } };
 enum { REQUESTS = sizeof REQUEST / sizeof *REQUEST, BENCHES = sizeof BENCH / sizeof *BENCH };
 
-static uint16_t memory[WORDS];
+/* Records of an archive; what is asked of it, with its number. */
+static const uint64_t RECORDS[] = { 0, 12, 1024, SHARED / 4 };
+static const struct { const char *name; uint64_t what; } FARM[] = { { "find a farm", 0 }, { "open for a farm", 1 } };
+enum { ARCHIVES = sizeof RECORDS / sizeof *RECORDS, FARM_REQUESTS = sizeof FARM / sizeof *FARM };
+
+static uint16_t memory[SHARED + WORDS];
 static double now(void) { struct timespec t; clock_gettime(CLOCK_MONOTONIC, &t); return t.tv_sec * 1e9 + t.tv_nsec; }
 
 /* The least time of a run, and how many requests of the last were done. */
@@ -36,6 +45,38 @@ static double run(int r, int b, uint64_t rounds, uint64_t *done) {
         if (ns < best) best = ns;
     }
     return best;
+}
+
+/* The same of an archive of so many records, those of all farms in their order. */
+static double of_archive(int r, uint64_t records, uint64_t rounds, uint64_t *done) {
+    for (uint64_t i = 0; i < records; i++) memory[4 * i] = i * FARMS / records;
+    double best = 1e18;
+    for (int i = 0; i < RUNS; i++) {
+        double start = now();
+        *done = archive_asked(memory, 4 * records + WORDS, seg, w2, 4 * records, FARM[r].what, FARMS / 2, rounds);
+        double ns = now() - start;
+        if (ns < best) best = ns;
+    }
+    return best;
+}
+
+static int archives(void) {
+    int good = 1;
+    many(10);
+    printf("%-18s", "ns a request");
+    for (int a = 0; a < ARCHIVES; a++) printf("  %20u records", (unsigned)RECORDS[a]);
+    puts("");
+    for (int r = 0; r < FARM_REQUESTS; r++) {
+        printf("  %-16s", FARM[r].name);
+        for (int a = 0; a < ARCHIVES; a++) {
+            uint64_t built, done;
+            double build = of_archive(r, RECORDS[a], 0, &built), all = of_archive(r, RECORDS[a], ROUNDS, &done);
+            if (done == ROUNDS) printf("  %28.0f", (all - build) / ROUNDS); else printf("  %28s", "refused");
+            good &= done == ROUNDS;
+        }
+        puts("");
+    }
+    return good;
 }
 
 int main(void) {
@@ -55,5 +96,6 @@ int main(void) {
         }
         puts("");
     }
+    good &= archives();
     return !good;
 }

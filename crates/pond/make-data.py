@@ -140,6 +140,23 @@ OTHERS = {
     'folder/keep': b'a folder where a file is asked for\n',
 }
 
+# records as text: every way of writing them that is taken, and a file for each that is not
+SHEETS = {
+    'good': b'farm;pond;day;concentration\r\n# North\r\n12;1;1;12\r\n\r\n  12 1\t2 , 15\r\n;;;\r\n65535;0;0;65535',
+    'bare': b'\xef\xbb\xbf0 1 2 3\n0 1 3 4\n',
+    'quoted': b'"farm","pond (no.)","day","NH3"\n7,1,1,1\n',
+    'three': b'12,1,1,12\n12,1,2\n', 'five': b'12,1,1,12\n\n12,1,2,15,16\n', 'past': b'# a remark\n12,1,1,65536\n', 'wide': b'12,1,1,12\n12,1,2,99999999999999999999999\n',
+    'letters': b'farm,pond,day,concentration\nO12,1,1,12\n', 'minus': b'12,1,1,-3\n', 'point': b'12,1,1,1.5\n', 'empty-field': b'12,,1,2,3\n', 'quotes': b'12,1,1,2\n"12","1","2","3"\n',
+    'second-heading': b'farm,pond,day,concentration\nfarm,pond,day,concentration\n12,1,1,12\n', 'falls': b'12,1,1,12\n17,1,1,31\n\n12,1,2,15\n',
+    'none': b'', 'heading': b'farm,pond,day,concentration\n', 'bytes': bytes(range(256)) * 4, 'long': b'12,1,1,' + b'7' * 5000 + b'\n', 'many-fields': b'1,' * 3000 + b'\n',
+    'farm0': b'0,1,1,1\n', 'most': b'3,2,1,0\n' * 8192, 'too-many': b'3,2,1,0\n' * 8193,
+}
+# the same as bytes, where farm numbers fall at record 1, and at record 2
+OTHERS['falls1'] = b''.join(w.to_bytes(2, 'little') for w in (1, 0, 0, 0, 0, 0, 0, 0))
+OTHERS['falls2'] = b''.join(w.to_bytes(2, 'little') for w in (7, 1, 1, 1, 65535, 2, 2, 2, 65534, 3, 3, 3))
+for name, body in SHEETS.items():
+    OTHERS[f'{name}.csv'] = body
+
 os.makedirs('data/folder', exist_ok=True)
 for name, body in FILES.items():
     open(f'data/{name}.seg', 'wb').write(bytes(body))

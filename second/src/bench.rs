@@ -25,7 +25,38 @@ impl Slot {
     pub const EMPTY: Slot = Slot { loaded: false, start: 0, length: 0 };
 }
 
-/// A session record: the slot it names, its region and its session.
+/// The shared words that a session sees.  Request 7 of 02: "The runner's session
+/// record gains the window; older openings have all S words."
+#[derive(Clone, Copy, Debug, PartialEq, Eq)]
+pub struct Window {
+    /// Its first word among the shared words.
+    pub first: u64,
+    /// How many words it has.
+    pub count: u64,
+}
+
+impl Window {
+    /// That of an unused record, and of a farm without records: "empty at word 0".
+    pub const NONE: Window = Window { first: 0, count: 0 };
+
+    /// All S words.
+    pub fn all(shared: u64) -> Window {
+        Window { first: 0, count: shared }
+    }
+
+    /// Whether it is inside the S words; a sum beyond 64 bits is not.
+    pub fn is_inside(&self, shared: u64) -> bool {
+        self.first.checked_add(self.count).is_some_and(|end| end <= shared)
+    }
+
+    /// Its words among the shared ones, if it is inside them.
+    pub fn words<'a>(&self, shared: &'a [u16]) -> Option<&'a [u16]> {
+        let end = self.first.checked_add(self.count)?;
+        shared.get(usize::try_from(self.first).ok()?..usize::try_from(end).ok()?)
+    }
+}
+
+/// A session record: the slot it names, its region, its window and its session.
 #[derive(Clone, Copy, Debug, PartialEq, Eq)]
 pub struct Record {
     pub open: bool,
@@ -34,6 +65,7 @@ pub struct Record {
     pub base: u64,
     /// L
     pub length: u64,
+    pub window: Window,
     pub session: Session,
 }
 
@@ -44,6 +76,7 @@ impl Record {
         slot: 0,
         base: 0,
         length: 0,
+        window: Window::NONE,
         session: Session { sp: 0, m: 0, counter: 0, routine: 0, low: 0, kind: Kind::Ready },
     };
 
@@ -109,6 +142,7 @@ pub fn is_sound(bench: &Bench, memory: &[u16], store: &[u8]) -> bool {
         && loaded_slots_are_good(bench, store)
         && regions_lie_well(bench)
         && regions_are_apart(bench)
+        && windows_lie_well(bench)
         && open_records(bench).all(|record| session_is_good(bench, store, &record))
 }
 
@@ -135,6 +169,11 @@ fn regions_are_apart(bench: &Bench) -> bool {
             .skip(index + 1)
             .all(|other| one.ends_by(other.base) || other.ends_by(one.base))
     })
+}
+
+/// Request 7 of 02: "A window not inside the S words gets 13, in soundness 11."
+fn windows_lie_well(bench: &Bench) -> bool {
+    open_records(bench).all(|record| record.window.is_inside(bench.shared))
 }
 
 /// "every open session names a loaded slot, has L in 16..32,768, 6+G at most
@@ -169,7 +208,7 @@ fn session_is_good(bench: &Bench, store: &[u8], record: &Record) -> bool {
 }
 
 /// "11 bench not sound for the lent memory and store", first in every order.
-fn check_11(bench: &Bench, memory: &[u16], store: &[u8]) -> Result<(), Refusal> {
+pub fn check_11(bench: &Bench, memory: &[u16], store: &[u8]) -> Result<(), Refusal> {
     if is_sound(bench, memory, store) {
         Ok(())
     } else {
@@ -214,9 +253,7 @@ pub fn load(
     Ok(())
 }
 
-/// "Opening 11, 12, 13, 14, 15."  "Opening gives the lowest gap that fits,
-/// from word S up, and the lowest unused record, sets every word of the region
-/// to zero, and starts routine 1."  Gives the session number.
+/// The older opening: it has "all S words".
 pub fn open(
     bench: &mut Bench,
     memory: &mut [u16],
@@ -224,13 +261,30 @@ pub fn open(
     slot: u64,
     length: u64,
 ) -> Result<u64, Refusal> {
+    let window = Window::all(bench.shared);
+    open_on(bench, memory, store, slot, length, window)
+}
+
+/// "Opening 11, 12, 13, 14, 15."  "Opening gives the lowest gap that fits,
+/// from word S up, and the lowest unused record, sets every word of the region
+/// to zero, and starts routine 1."  Gives the session number.
+pub fn open_on(
+    bench: &mut Bench,
+    memory: &mut [u16],
+    store: &[u8],
+    slot: u64,
+    length: u64,
+    window: Window,
+) -> Result<u64, Refusal> {
     check_11(bench, memory, store)?;
     // "slot [...] number above 15; slot not loaded".  A loaded slot of a sound
     // bench has a judged segment.
     let segment =
         loaded_slot(bench, slot).and_then(|slot| segment_of(store, &slot)).ok_or(refusal(12))?;
-    // "L outside 16..32,768, or L below 6+G"
-    if !(16..=32_768).contains(&length) || length < 6 + u64::from(segment.global_size()) {
+    // "L outside 16..32,768, or L below 6+G"; request 7 of 02: "A window not
+    // inside the S words gets 13"
+    let least = 16.max(6 + u64::from(segment.global_size()));
+    if !(least..=32_768).contains(&length) || !window.is_inside(bench.shared) {
         return Err(refusal(13));
     }
     // "no record unused"
@@ -247,6 +301,7 @@ pub fn open(
             slot,
             base,
             length,
+            window,
             session: machine::starting_state(&segment, length),
         };
     }
@@ -266,7 +321,8 @@ fn lowest_gap(bench: &Bench, length: u64) -> Option<u64> {
     })
 }
 
-/// How a turn is run: `machine::turn` or `fast::turn`.
+/// How a turn is run: `machine::turn` or `fast::turn`.  The shared words that it
+/// is handed are those of the session's window.
 pub type Runner = fn(&Segment, &[u16], &mut [u16], &mut Session, u64) -> u64;
 
 /// "Turn and closing 11, 12, 16."  Gives the steps done.
@@ -305,9 +361,11 @@ pub fn turn_by(
     let begin = record.base.checked_sub(bench.shared).ok_or(refusal(11))? as usize;
     let region =
         others.get_mut(begin..begin + record.length as usize).ok_or(refusal(11))?;
+    // Request 7 of 02: "a session that sees only that range, at 32,768 onward"
+    let seen = record.window.words(shared).ok_or(refusal(11))?;
 
     let mut state = record.session;
-    let done = runner(&segment, shared, region, &mut state, k);
+    let done = runner(&segment, seen, region, &mut state, k);
     if let Some(record) = bench.records.get_mut(session as usize) {
         record.session = state;
     }

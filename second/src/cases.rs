@@ -39,14 +39,16 @@ fn session_numbers(session: &Session) -> [u64; 8] {
     [sp, m, counter, routine, low, kind, fault, place]
 }
 
-/// USED SLOT BASE LENGTH
-fn region_numbers(record: &Record) -> [u64; 4] {
-    [u64::from(record.open), record.slot, record.base, record.length]
+/// USED SLOT BASE LENGTH FIRST COUNT
+fn region_numbers(record: &Record) -> [u64; 6] {
+    let Record { slot, base, length, window, .. } = *record;
+    [u64::from(record.open), slot, base, length, window.first, window.count]
 }
 
 /// "BENCH is of N, S, then of each slot LOADED START LENGTH, then of each
-/// record USED SLOT BASE LENGTH SP M COUNTER ROUTINE LOW KIND FAULT PLACE"; "a
-/// number of the bench is taken as two, its lower and then its upper 32 bits."
+/// record USED SLOT BASE LENGTH FIRST COUNT SP M COUNTER ROUTINE LOW KIND FAULT
+/// PLACE"; "a number of the bench is taken as two, its lower and then its upper
+/// 32 bits."
 fn bench_digest(bench: &Bench) -> u64 {
     let slots = bench.slots.iter().flat_map(|slot| [u64::from(slot.loaded), slot.start, slot.length]);
     let records = bench
@@ -78,6 +80,8 @@ pub fn answer_line(asked: Request, answer: &Answer, world: &World) -> String {
             }
         }
         Answer::Sound(sound) => if *sound { "y" } else { "n" }.to_string(),
+        Answer::Accepted => "a".to_string(),
+        Answer::Range(window) => numbers_after("a", &[window.first, window.count]),
         Answer::Refused(refused) => match asked {
             Request::Entry(_) => format!("r {:x} {:x} {}", refused.number, refused.place, digests()),
             _ => format!("r {:x} {:x}", refused.number, refused.place),
@@ -134,7 +138,15 @@ pub fn request_line(asked: Request) -> String {
         Request::Entry(Call::Load { slot, start, length }) => {
             numbers_after("L", &[slot, start, length])
         }
+        Request::Archive => "A".to_string(),
+        Request::Farm(farm) => numbers_after("G", &[farm]),
         Request::Entry(Call::Open { slot, length }) => numbers_after("O", &[slot, length]),
+        Request::Entry(Call::OpenOn { slot, length, window }) => {
+            numbers_after("W", &[slot, length, window.first, window.count])
+        }
+        Request::Entry(Call::OpenFor { slot, length, farm }) => {
+            numbers_after("F", &[slot, length, farm])
+        }
         Request::Entry(Call::Turn { session, k }) => numbers_after("T", &[session, k]),
         Request::Entry(Call::Close { session }) => numbers_after("X", &[session]),
     }
@@ -159,8 +171,8 @@ fn field_lines(old: &Bench, new: &Bench) -> String {
     }
     for (number, (old, new)) in (0..).zip(old.records.iter().zip(&new.records)) {
         if region_numbers(old) != region_numbers(new) {
-            let [used, slot, base, length] = region_numbers(new);
-            line("e", &[number, used, slot, base, length]);
+            let [used, slot, base, length, first, count] = region_numbers(new);
+            line("e", &[number, used, slot, base, length, first, count]);
         }
         if old.session != new.session {
             let [sp, m, counter, routine, low, kind, fault, place] = session_numbers(&new.session);

@@ -1,6 +1,7 @@
 //! What the cases written came to: steps by first byte and outcome, refusals
 //! by entry, damages; and what is missing of what document 01 makes possible.
 
+use crate::bench::Record;
 use crate::cut;
 use crate::depth;
 use crate::generate::{
@@ -10,6 +11,7 @@ use crate::generate::{
 use crate::machine::{self, Kind, Op, Session};
 use crate::pool;
 use crate::segment::Segment;
+use crate::window;
 use crate::world::{Answer, Call, Request, World};
 use std::collections::BTreeMap;
 
@@ -20,7 +22,8 @@ pub struct Coverage {
     pub requests: u64,
     pub steps_done: u64,
     /// Turns of one step, by first byte and what the step came to; and, from
-    /// `depth::DEPTH` on, what became of the lowest SP.
+    /// `depth::DEPTH` on, what became of the lowest SP, and from
+    /// `window::WINDOW` on, where it met the window.
     pub steps: BTreeMap<Outcome, usize>,
     /// Turns of one step in a routine that is unlinked.
     pub in_unlinked: usize,
@@ -50,6 +53,8 @@ pub struct AboutTo {
     /// An LDC or XJP.
     pool: Option<pool::Met>,
     depth: Option<depth::Met>,
+    /// An indexed read or a store.
+    window: Option<window::Met>,
 }
 
 /// The pairs that a step counts for.
@@ -57,11 +62,16 @@ pub struct AboutTo {
 pub struct Came {
     pub outcome: Outcome,
     pub depth: Option<Outcome>,
+    pub window: Option<Outcome>,
 }
 
 impl Came {
     pub fn counts_for(&self, outcome: Outcome) -> bool {
-        self.outcome == outcome || self.depth == Some(outcome)
+        self.all().any(|came| came == outcome)
+    }
+
+    pub fn all(&self) -> impl Iterator<Item = Outcome> {
+        [Some(self.outcome), self.depth, self.window].into_iter().flatten()
     }
 }
 
@@ -71,7 +81,9 @@ fn is_unlinked(segment: &Segment, number: u64) -> bool {
 }
 
 impl AboutTo {
-    pub fn meet(segment: &Segment, session: &Session, region: &[u16]) -> AboutTo {
+    /// What the session of a record will meet in its region; `shared` is S.
+    pub fn meet(segment: &Segment, record: &Record, region: &[u16], shared: u64) -> AboutTo {
+        let session = &record.session;
         let counter = usize::try_from(session.counter).unwrap_or(usize::MAX);
         let decoded = machine::decode(segment, session.counter).ok();
         let called = decoded.filter(|decoded| {
@@ -80,14 +92,16 @@ impl AboutTo {
                 Op::CallLocal | Op::CallGlobal | Op::CallIntermediate
             )
         });
+        let first = segment.bytes.get(counter).copied();
         AboutTo {
-            first: segment.bytes.get(counter).copied(),
+            first,
             calls_unlinked: called.is_some_and(|call| is_unlinked(segment, call.value as u64)),
             full: session.sp < 6 + u64::from(segment.global_size()) + 5,
             in_unlinked: is_unlinked(segment, session.routine),
             cut: cut::counted(segment, session.counter),
             pool: pool::Met::meet(segment, session, region),
             depth: depth::Met::meet(segment, session, decoded.as_ref()),
+            window: window::Met::meet(first, decoded.as_ref(), session, region, record.window, shared),
         }
     }
 
@@ -104,7 +118,8 @@ impl AboutTo {
             end => self.pool.map_or(end, |met| met.counted(end)),
         };
         let depth = self.depth.and_then(|met| met.counted(session));
-        Came { outcome: (self.first, end), depth }
+        let window = self.window.and_then(|met| met.counted(session));
+        Came { outcome: (self.first, end), depth, window }
     }
 }
 
@@ -115,7 +130,11 @@ fn entry_name(request: Request) -> &'static str {
         Request::Sound => "soundness",
         Request::Entry(Call::New { .. }) => "new bench",
         Request::Entry(Call::Load { .. }) => "loading",
+        Request::Archive => "archive",
+        Request::Farm(_) => "a farm's range",
         Request::Entry(Call::Open { .. }) => "opening",
+        Request::Entry(Call::OpenOn { .. }) => "opening with a window",
+        Request::Entry(Call::OpenFor { .. }) => "opening for a farm",
         Request::Entry(Call::Turn { .. }) => "turn",
         Request::Entry(Call::Close { .. }) => "closing",
     }
@@ -138,7 +157,7 @@ impl Coverage {
         let record = world.bench.records.get(usize::try_from(session).ok()?)?;
         let segment = Segment::judge(world.segment_bytes(record.slot)?).ok()?;
         let region = usize::try_from(session).ok().and_then(|number| world.region(number));
-        Some(AboutTo::meet(&segment, &record.session, region.unwrap_or(&[])))
+        Some(AboutTo::meet(&segment, record, region.unwrap_or(&[]), world.bench.shared))
     }
 
     /// To be told after a request was put.
@@ -157,8 +176,7 @@ impl Coverage {
         let segment = world.segment_bytes(record.slot).and_then(|bytes| Segment::judge(bytes).ok());
         match (about_to, segment) {
             (Some(met), Some(segment)) => {
-                let Came { outcome, depth } = met.came(&segment, &record.session);
-                for outcome in [Some(outcome), depth].into_iter().flatten() {
+                for outcome in met.came(&segment, &record.session).all() {
                     *self.steps.entry(outcome).or_default() += 1;
                 }
                 self.in_unlinked += usize::from(met.in_unlinked);
@@ -245,7 +263,7 @@ impl Coverage {
         }
         text += "request, refusal (0 none): how often\n";
         for ((entry, number), count) in &self.refusals {
-            text += &format!("  {entry:10} {number:2}: {count}\n");
+            text += &format!("  {entry:21} {number:2}: {count}\n");
         }
         text += "damage, whether sound after it: how often\n";
         for ((kind, sound), count) in &self.damages {
@@ -266,6 +284,7 @@ fn end_name(end: u32) -> String {
         LINK_BEFORE_UNLINKED => "9 before unlinked".to_string(),
         BACK_TO_UNLINKED => "ok back to unlinked".to_string(),
         cut::CUT..=cut::LAST_CUT => cut::name(end),
+        window::WINDOW.. => window::name(end).to_string(),
         depth::DEPTH.. => depth::name(end).to_string(),
         pool::POOL.. => pool::name(end).to_string(),
         fault => format!("{fault}"),

@@ -2,18 +2,19 @@
 //! outside the limit of one part of 01's sentence "A bench is sound when ...",
 //! and says by itself whether the bench is sound after it.
 
-use crate::bench::{Record, Slot};
+use crate::bench::{Record, Slot, Window};
 use crate::generate::{open_sessions, put_word, Rng};
 use crate::machine::Kind;
 use crate::segment::{Segment, Sex};
+use crate::window;
 use crate::world::World;
 
 /// What is lost where a number is cut to 32 bits.
 const WIDE: u64 = 1 << 32;
 
 /// The damages, in the order of 01's sentence.
-pub const DAMAGES: [&str; 50] = [
-    "S just at a limit", "S beyond 32,768", "S beyond N", "N beyond 1,048,576",
+pub const DAMAGES: [&str; 57] = [
+    "S just at a limit", "S below a window", "S beyond 32,768", "S beyond N", "N beyond 1,048,576",
     "N not the memory's words", "memory one word short", "memory one word long",
     "slot range to the store's end", "slot range beyond the store", "slot start far beyond",
     "slot length odd", "segment in a slot spoilt", "a routine unlinked", "all but routine 1 unlinked",
@@ -24,6 +25,8 @@ pub const DAMAGES: [&str; 50] = [
     "L above 32,768", "L below 6+G", "SP at a limit", "SP outside",
     "lowest SP at a limit", "lowest SP between", "lowest SP outside", "SP below the lowest SP", "M at a limit", "M outside",
     "counter at a limit", "counter outside", "routine at a limit", "routine outside",
+    "window to the end of S", "window empty within S", "window one past S", "window empty past S", "window far beyond",
+    "window of an unused record",
     "fault and place at a limit", "fault 1 as recorded before", "fault outside 1..10", "place outside 22..2W",
 ];
 
@@ -63,6 +66,7 @@ pub fn damage(rng: &mut Rng, world: &mut World, kind: &str) -> Option<bool> {
         .or_else(|| damage_length(rng, world, kind, &target))
         .or_else(|| damage_session(rng, world, kind, &target))
         .or_else(|| damage_low(rng, world, kind, &target))
+        .or_else(|| damage_window(rng, world, kind, &target))
         .or_else(|| damage_fault(rng, world, kind, &target))
 }
 
@@ -387,10 +391,7 @@ fn damage_low(rng: &mut Rng, world: &mut World, kind: &str, target: &Target) -> 
     let (floor, length) = (target.floor, target.record.length);
     let session = &mut world.bench.records.get_mut(target.number)?.session;
     let sp = session.sp;
-    session.kind = rng.pick(
-        &[session.kind, Kind::Ready, Kind::Finished, Kind::Faulted { number: 4, place: 22 }],
-        Kind::Ready,
-    );
+    session.kind = any_kind(rng, session.kind);
     match kind {
         "lowest SP at a limit" => session.low = rng.pick(&[floor, sp], sp),
         "lowest SP between" => session.low = rng.between(floor as i64, sp as i64) as u64,
@@ -404,6 +405,41 @@ fn damage_low(rng: &mut Rng, world: &mut World, kind: &str, target: &Target) -> 
         }
     }
     Some(matches!(kind, "lowest SP at a limit" | "lowest SP between"))
+}
+
+fn any_kind(rng: &mut Rng, now: Kind) -> Kind {
+    rng.pick(&[now, Kind::Ready, Kind::Finished, Kind::Faulted { number: 4, place: 22 }], Kind::Ready)
+}
+
+/// The window of a session of any kind: "A window not inside the S words gets
+/// 13, in soundness 11."
+fn damage_window(rng: &mut Rng, world: &mut World, kind: &str, target: &Target) -> Option<bool> {
+    if !kind.contains("window") {
+        return None;
+    }
+    let all = world.bench.shared;
+    let within = rng.up_to(all);
+    let Window { first, count } = target.record.window;
+    if kind == "S below a window" {
+        // the regions stay above it
+        world.bench.shared = (first + count).checked_sub(1)?;
+        return Some(false);
+    }
+    if kind == "window of an unused record" {
+        let unused = world.bench.records.iter_mut().find(|record| !record.open)?;
+        unused.window = window::far(rng, first, count);
+        return Some(true);
+    }
+    let record = world.bench.records.get_mut(target.number)?;
+    record.session.kind = any_kind(rng, record.session.kind);
+    record.window = match kind {
+        "window to the end of S" => Window { first: within, count: all - within },
+        "window empty within S" => Window { first: rng.pick(&[0, within, all], all), count: 0 },
+        "window one past S" => Window { first: within, count: all - within + 1 },
+        "window empty past S" => Window { first: all + rng.pick(&[1, 1, 4, 40_000], 1), count: 0 },
+        _ => window::far(rng, first, count),
+    };
+    Some(matches!(kind, "window to the end of S" | "window empty within S"))
 }
 
 /// Fault and place of a faulted session.

@@ -70,12 +70,12 @@ fn set_up(letter: &str, numbers: &[u64]) -> Option<String> {
         ("n", [words, shared]) => format!("N = {words}, S = {shared}"),
         ("s", [slot, 0, start, length]) => format!("slot {slot} not loaded ({start}, {length})"),
         ("s", [slot, _, start, length]) => format!("slot {slot} loaded: {length} bytes from {start}"),
-        ("e", [record, 0, slot, base, length]) => {
-            format!("session {record} not open (slot {slot}, base {base}, L {length})")
-        }
-        ("e", [record, _, slot, base, length]) => {
-            format!("session {record} open on slot {slot}: L = {length}, words from {base}")
-        }
+        ("e", [record, 0, slot, base, length, first, count]) => format!(
+            "session {record} not open (slot {slot}, base {base}, L {length}, window of {count} words from {first})"
+        ),
+        ("e", [record, _, slot, base, length, first, count]) => format!(
+            "session {record} open on slot {slot}: L = {length}, words from {base}; sees {count} shared words from {first}"
+        ),
         ("r", [record, sp, m, counter, routine, low, k, fault, place]) => format!(
             "session {record}: SP {sp}, M {m}, counter {counter}, routine {routine}, lowest SP {low}, {}",
             kind(*k, *fault, *place)
@@ -92,6 +92,14 @@ fn asked(letter: &str, numbers: &[u64]) -> Option<String> {
         ("N", [words, shared]) => format!("? new bench, N = {words}, S = {shared}"),
         ("L", [slot, start, length]) => format!("? load slot {slot}: {length} bytes from {start}"),
         ("O", [slot, length]) => format!("? open a session on slot {slot}, L = {length}"),
+        ("A", []) => "? judge the shared words as an archive".to_string(),
+        ("G", [farm]) => format!("? where are the records of farm {}", farm % 65_536),
+        ("W", [slot, length, first, count]) => format!(
+            "? open a session on slot {slot}, L = {length}, that sees {count} shared words from {first}"
+        ),
+        ("F", [slot, length, farm]) => {
+            format!("? open a session on slot {slot}, L = {length}, for farm {}", farm % 65_536)
+        }
         ("X", [session]) => format!("? close session {session}"),
         _ => return None,
     })
@@ -110,7 +118,9 @@ fn answer(letter: &str, numbers: &[u64]) -> Option<String> {
             "= {value} steps: SP {sp}, M {m}, counter {counter}, routine {routine}, lowest SP {low}, {}",
             kind(*k, *fault, *place)
         ),
+        ("a", []) => "= accepted".to_string(),
         ("a", [_]) => "= turned".to_string(),
+        ("a", [first, count]) => format!("= {count} words from {first}"),
         ("a", [words, least, d, reloc, pool, start, real, count, _]) => format!(
             "= good: W {words}, {} byte first, D {d}, relocation {reloc}, pool {pool}, real pool {start}, real size {real}, n {count}",
             if *least == 1 { "least" } else { "most" }

@@ -246,7 +246,7 @@ pub fn run(
                 if base == 0 {
                     fault!(6)
                 }
-                // S is at most 32,768, so a sum above 65,535 names no shared word
+                // a window has at most 32,768 words, so a sum above 65,535 names none
                 let address = base + index;
                 let word = if address < length {
                     region[address]

@@ -12,6 +12,7 @@ use crate::machine::{self, Form, Kind, Op, Session};
 use crate::pool::{self, Pool};
 use crate::segment::{Segment, Sex};
 use crate::unlinked::{self, Entries};
+use crate::window;
 use crate::world::{ask, blank_bench, Call, World};
 
 // ---------------------------------------------------------------- randomness
@@ -75,7 +76,8 @@ pub struct SegmentCase {
     pub output_length: usize,
 }
 
-/// A session on its region, to be run for k steps (1 for a single step).
+/// A session on its region, to be run for k steps (1 for a single step); the
+/// shared words are those of its window.
 #[derive(Clone, Debug, PartialEq, Eq)]
 pub struct RunCase {
     pub segment: Vec<u8>,
@@ -1022,7 +1024,8 @@ pub fn can_go_well(first: u8) -> bool {
 
 /// What one step came to: a fault number, 0 for gone on, 11 for finished.  From
 /// 16 on it is fault 1 of a cut instruction (`cut`), from 32 on what LDC and XJP
-/// came to (`pool`), from 96 on what became of the lowest SP (`depth`).
+/// came to (`pool`), from 96 on what became of the lowest SP (`depth`), from 112
+/// on where a read or a store meets the window (`window`).
 pub const GONE_ON: u32 = 0;
 pub const FINISHED: u32 = 11;
 // Told apart from the faults 8 and 9 and from gone on, since unlinked routines
@@ -1041,6 +1044,7 @@ pub fn possible_outcomes() -> Vec<Outcome> {
     let mut possible = vec![(None, 1)];
     for first in 0..=255u8 {
         possible.extend(depth::possible(first));
+        possible.extend(window::possible(first));
         if matches!(first, 131 | 214) {
             possible.extend(pool::possible(first).into_iter().chain(possible_cuts(first)));
             continue;
@@ -1096,11 +1100,11 @@ pub fn run_case(rng: &mut Rng) -> RunCase {
 
 /// A sound bench with loaded slots and open sessions.
 pub fn sound_bench(rng: &mut Rng) -> World {
-    let shared = rng.pick(&[0u64, 0, 1, 5, 40], 0);
+    let mut memory = window::shared_words(rng);
+    let shared = memory.len() as u64;
     let words = shared + rng.pick(&[0u64, 15, 16, 60, 100, 200, 200, 300, 400, 600], 100);
     let alike = rng.pick(&[0, 9, 65_535], 0);
-    let memory: Vec<u16> =
-        (0..words).map(|_| if rng.chance(1, 20) { rng.next() as u16 } else { alike }).collect();
+    memory.extend((shared..words).map(|_| if rng.chance(1, 20) { rng.next() as u16 } else { alike }));
     let mut store = Vec::new();
     let mut ranges = Vec::new();
     for _ in 0..=rng.up_to(2) {
@@ -1132,7 +1136,8 @@ pub fn sound_bench(rng: &mut Rng) -> World {
         let slot = rng.pick(&loaded, 0);
         let most = if openings > 16 { 20 } else { 60 };
         let length = rng.between(16, most) as u64;
-        let _ = ask(&mut case, Call::Open { slot, length });
+        let opening = window::opening(rng, &case, slot, length);
+        let _ = ask(&mut case, opening);
     }
     for _ in 0..rng.up_to(4) {
         let session = rng.up_to(15);
@@ -1146,7 +1151,7 @@ pub fn sound_bench(rng: &mut Rng) -> World {
     case
 }
 
-fn loaded_slots(bench: &Bench) -> Vec<u64> {
+pub fn loaded_slots(bench: &Bench) -> Vec<u64> {
     (0..16).zip(bench.slots).filter(|(_, slot)| slot.loaded).map(|(number, _)| number).collect()
 }
 
@@ -1190,7 +1195,8 @@ pub fn call(rng: &mut Rng, case: &World) -> Call {
                 0 => rng.pick(&[15, 16, 32_768, 32_769, 0, 6, u64::MAX], 16),
                 _ => rng.between(16, 70) as u64,
             };
-            Call::Open { slot: number(rng, &loaded), length }
+            let slot = number(rng, &loaded);
+            if rng.chance(1, 2) { Call::Open { slot, length } } else { window::opening(rng, case, slot, length) }
         }
         5..=10 => {
             let k = rng.pick(&[0, 1, 2, 9, 30, 30, 200, 200, 1_000, 65_536, u64::MAX], 9);
@@ -1233,13 +1239,18 @@ pub fn sequence_case(rng: &mut Rng) -> SequenceCase {
 
 /// Which refusals each entry can give; 0 is none.  "Order: loading 11, 12, 17,
 /// then 1 to 8. Turning 1 to 10. Opening 11, 12, 13, 14, 15. Turn and closing
-/// 11, 12, 16."  (16 is a turn's alone.)
-pub fn possible_refusals() -> [(&'static str, &'static [u32]); 6] {
+/// 11, 12, 16."  (16 is a turn's alone.)  Request 7 of 02 adds the archive's:
+/// "refusal 23, after 11".
+pub fn possible_refusals() -> [(&'static str, &'static [u32]); 10] {
     [
         ("turning", &[0, 1, 2, 3, 4, 5, 6, 7, 8, 9, 10]),
         ("new bench", &[0, 17]),
         ("loading", &[0, 11, 12, 17, 1, 2, 3, 4, 5, 6, 7, 8]),
         ("opening", &[0, 11, 12, 13, 14, 15]),
+        ("opening with a window", &[0, 11, 12, 13, 14, 15]),
+        ("opening for a farm", &[0, 11, 23, 12, 13, 14, 15]),
+        ("archive", &[0, 11, 23]),
+        ("a farm's range", &[0, 11, 23]),
         ("turn", &[0, 11, 12, 16]),
         ("closing", &[0, 11, 12]),
     ]

@@ -15,8 +15,9 @@ mod pool;
 mod segments;
 mod soundness;
 mod unlinked;
+mod windows;
 
-use crate::bench::{Record, Slot};
+use crate::bench::{Record, Slot, Window};
 use crate::machine::{self, Fault, Kind, Session};
 use crate::segment::{Refusal, Routine};
 use crate::world::{blank_bench, Answer, Call, Judged, Request, World, UNWRITTEN};
@@ -51,6 +52,7 @@ pub fn table() -> Vec<Hand> {
     constants::fill(&mut table);
     case_jump::fill(&mut table);
     depth::fill(&mut table);
+    windows::fill(&mut table);
     table.cases
 }
 
@@ -176,6 +178,36 @@ impl Story<'_> {
             .refuses(Call::Turn { session: 99, k: 65_536 }, 11)
             .refuses(Call::Close { session: 0 }, 11)
             .refuses(Call::Close { session: 99 }, 11)
+            .refuses(Call::OpenOn { slot: 2, length: 16, window: Window::NONE }, 11)
+            .refuses(Call::OpenOn { slot: 99, length: 0, window: Window::all(u64::MAX) }, 11)
+            .refuses(Call::OpenFor { slot: 2, length: 16, farm: 9 }, 11)
+            .refuses(Call::OpenFor { slot: 99, length: 0, farm: 1 }, 11)
+            .denies(Request::Archive, 11)
+            .denies(Request::Farm(9), 11)
+    }
+
+    /// A question that is refused.
+    fn denies(self, request: Request, number: u32) -> Self {
+        self.asks(request, Answer::Refused(Refusal { number, place: 0 }))
+    }
+
+    /// The archive is accepted, or refused with 23.
+    fn accepts(self, accepted: bool) -> Self {
+        if accepted { self.asks(Request::Archive, Answer::Accepted) } else { self.denies(Request::Archive, 23) }
+    }
+
+    /// A farm's range.
+    fn finds(self, farm: u64, first: u64, count: u64) -> Self {
+        self.asks(Request::Farm(farm), Answer::Range(Window { first, count }))
+    }
+
+    /// This case ends, and the next one begins with its world, but for a change
+    /// that no request makes.
+    fn then(self, name: &str, change: impl FnOnce(&mut World)) -> Self {
+        let Story { table, name: ended, start, mut now, asked } = self;
+        table.cases.push(Hand { sentence: table.sentence, name: ended, start, asked });
+        change(&mut now);
+        Story { table, name: name.to_string(), start: now.clone(), now, asked: Vec::new() }
     }
 
     fn sound(self, sound: bool) -> Self {
@@ -342,6 +374,12 @@ impl<'a> Rig<'a> {
         self
     }
 
+    /// A session that sees these of the four shared words only.
+    fn with_window(mut self, first: u64, count: u64) -> Self {
+        at_record(&mut self.world, 1).window = Window { first, count };
+        self.noted(&format!(", window {first} {count}"))
+    }
+
     fn with_counter(mut self, counter: u64) -> Self {
         self.session().counter = counter;
         self
@@ -455,7 +493,8 @@ fn rig_world() -> World {
     set_bytes(&mut store, 2, &hand_segment(56));
     (bench.shared, bench.words) = (4, 80);
     bench.slots[3] = Slot { loaded: true, start: 2, length: 128 };
-    let open = |base, length, session| Record { open: true, slot: 3, base, length, session };
+    let window = Window::all(4);
+    let open = |base, length, session| Record { open: true, slot: 3, base, length, window, session };
     bench.records[0] = open(4, 16, ready(16, 1, 34, 1));
     bench.records[1] = open(20, 40, ready(40, 20, 34, 1));
     bench.records[2] = open(60, 16, Session { kind: Kind::Finished, ..ready(12, 2, 82, 2) });

@@ -6,6 +6,7 @@
 
 #![forbid(unsafe_code)]
 
+pub mod archive;
 pub mod bench;
 pub mod cases;
 pub mod coverage;
@@ -24,4 +25,5 @@ pub mod segment;
 pub mod set;
 pub mod steps;
 pub mod unlinked;
+pub mod window;
 pub mod world;

@@ -374,7 +374,8 @@ impl View<'_> {
 
     /// "A session address is one word. 0 is NIL. 1..L-1 is a private word of
     /// its region; 32,768+i is shared word i, for i below S, and can only be
-    /// read. All else faults."
+    /// read. All else faults."  Request 7 of 02: "Document 01's address rule
+    /// reads with the window"; the shared words here are those of the window.
     fn read(&self, address: i64) -> Result<u16, Fault> {
         if (1..self.length()).contains(&address) {
             return Ok(self.private(address));

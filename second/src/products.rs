@@ -2,7 +2,7 @@
 //! both orders, so that a multiplication which works by parts is seen where one
 //! of them is wrong.  A report leaves its products on the stack, one word each.
 
-use crate::bench::{Record, Slot};
+use crate::bench::{Record, Slot, Window};
 use crate::generate::{put_word, FACTORS, SMALL};
 use crate::machine::{Kind, Session};
 use crate::segment::Sex;
@@ -35,7 +35,8 @@ fn opened(segment: &[u8], first: u16) -> World {
     let mut bench = blank_bench();
     bench.words = length;
     bench.slots[0] = Slot { loaded: true, start: 0, length: segment.len() as u64 };
-    bench.records[0] = Record { open: true, slot: 0, base: 0, length, session };
+    bench.records[0] =
+        Record { open: true, slot: 0, base: 0, length, window: Window::NONE, session };
     let mut memory = vec![0; LENGTH];
     memory[IN_TURN] = first;
     World { bench, memory, store: segment.to_vec() }

@@ -2,6 +2,7 @@
 //! interpreter asked, as the program that is held to these answers does it.
 //! It shows that the writer's lines say what the writer meant.
 
+use crate::bench::Window;
 use crate::cases::answer_line;
 use crate::machine::{Kind, Session};
 use crate::world::{blank_bench, request, Call, Request, World};
@@ -55,10 +56,11 @@ impl Reader {
                     (place.loaded, place.start, place.length) = (*loaded != 0, *start, *length);
                 }
             }
-            ("e", [record, used, slot, base, length]) => {
-                if let Some(place) = bench.records.get_mut(*record as usize) {
-                    (place.open, place.slot) = (*used != 0, *slot);
-                    (place.base, place.length) = (*base, *length);
+            ("e", &[record, used, slot, base, length, first, count]) => {
+                if let Some(place) = bench.records.get_mut(record as usize) {
+                    (place.open, place.slot) = (used != 0, slot);
+                    (place.base, place.length) = (base, length);
+                    place.window = Window { first, count };
                 }
             }
             ("r", [record, sp, m, counter, routine, low, kind, fault, place]) => {
@@ -108,7 +110,13 @@ fn asked(letter: &str, numbers: &[u64]) -> Option<Request> {
         ("Q", []) => Request::Sound,
         ("N", &[words, shared]) => Request::Entry(Call::New { shared, words }),
         ("L", &[slot, start, length]) => Request::Entry(Call::Load { slot, start, length }),
+        ("A", []) => Request::Archive,
+        ("G", &[farm]) => Request::Farm(farm),
         ("O", &[slot, length]) => Request::Entry(Call::Open { slot, length }),
+        ("W", &[slot, length, first, count]) => {
+            Request::Entry(Call::OpenOn { slot, length, window: Window { first, count } })
+        }
+        ("F", &[slot, length, farm]) => Request::Entry(Call::OpenFor { slot, length, farm }),
         ("T", &[session, k]) => Request::Entry(Call::Turn { session, k }),
         ("X", &[session]) => Request::Entry(Call::Close { session }),
         _ => return None,

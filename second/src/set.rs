@@ -20,6 +20,7 @@ use crate::products;
 use crate::segment::turn_over;
 use crate::steps::{base, draw, placed, Place};
 use crate::unlinked;
+use crate::window;
 use crate::world::{Call, Request, World};
 use std::collections::BTreeMap;
 use std::io::{self, Write};
@@ -48,6 +49,8 @@ fn drawn(outcome: Outcome) -> usize {
 
 /// How often what LDC and XJP come to is drawn besides the cases by hand.
 const DRAWN_OF_POOLS: usize = 15;
+/// The same of reads and stores at the window's ends.
+const DRAWN_OF_WINDOWS: usize = 12;
 
 /// A writer with the randomness and the number of cases wanted.
 pub struct Set<'a, Q: Write, A: Write> {
@@ -98,7 +101,7 @@ impl<'a, Q: Write, A: Write> Set<'a, Q, A> {
         self.products()
     }
 
-    /// Benches of four sorts.
+    /// Benches of five sorts.
     fn benches(&mut self) -> io::Result<()> {
         self.writer.remark("benches that load, open and run segments with unlinked routines")?;
         for _ in 0..40 {
@@ -111,6 +114,10 @@ impl<'a, Q: Write, A: Write> Set<'a, Q, A> {
         self.writer.remark("benches that run into the segment's end, some with records of before")?;
         for _ in 0..40 {
             self.cut_bench()?;
+        }
+        self.writer.remark("benches with an archive, and sessions that see a part of it")?;
+        for _ in 0..150 {
+            self.archive_bench()?;
         }
         self.writer.remark("benches sound, and damaged in one field")?;
         self.every_damage(6)
@@ -130,8 +137,9 @@ impl<'a, Q: Write, A: Write> Set<'a, Q, A> {
                 31 | 32 => self.pool_bench()?,
                 33..=44 => self.some_damages(8)?,
                 45..=63 => self.run()?,
-                64..=75 => self.loading()?,
-                76..=97 => self.sequence()?,
+                64..=71 => self.loading()?,
+                72..=79 => self.archive_bench()?,
+                80..=97 => self.sequence()?,
                 _ => self.new_bench()?,
             }
         }
@@ -199,14 +207,19 @@ impl<'a, Q: Write, A: Write> Set<'a, Q, A> {
         Ok(())
     }
 
-    /// Whether a step is wanted for what it came to, or for its lowest SP.
+    /// Whether a step is wanted for what it came to, for its lowest SP, or for
+    /// where it met the window.
     fn lacks_of(&self, came: Came) -> bool {
-        self.lacks(came.outcome) || came.depth.is_some_and(|depth| self.lacks(depth))
+        came.all().any(|outcome| self.lacks(outcome))
     }
 
     /// Whether an outcome is to be drawn once more.
     fn lacks(&self, outcome: Outcome) -> bool {
         let wanted = match outcome {
+            (_, window::WINDOW..) => {
+                let by_hand = self.by_hand.get(&outcome).copied().unwrap_or(0);
+                WANTED.max(by_hand + DRAWN_OF_WINDOWS)
+            }
             (_, depth::DEPTH..) => WANTED,
             (_, pool::POOL..) => {
                 let by_hand = self.by_hand.get(&outcome).copied().unwrap_or(0);
@@ -226,13 +239,15 @@ impl<'a, Q: Write, A: Write> Set<'a, Q, A> {
         };
         let of_unlinked = those(UNLINKED..=BACK_TO_UNLINKED);
         let of_pools = those(pool::POOL..=depth::DEPTH - 1);
-        let of_depths = those(depth::DEPTH..=u32::MAX);
+        let of_depths = those(depth::DEPTH..=window::WINDOW - 1);
+        let of_windows = those(window::WINDOW..=u32::MAX);
         let mut used = 0;
         while used < many && !self.full() {
-            let hoped_for = match self.rng.up_to(11) {
+            let hoped_for = match self.rng.up_to(12) {
                 0 => &of_unlinked,
                 1 | 2 => &of_pools,
                 3 | 4 => &of_depths,
+                5 => &of_windows,
                 _ => &possible,
             };
             let hoped = self.rng.pick(hoped_for, (None, 1));
@@ -402,8 +417,13 @@ impl<'a, Q: Write, A: Write> Set<'a, Q, A> {
         *self.writer.coverage.damages.entry((kind, sound)).or_default() += 1;
         // an entry that would be sensible on the bench before
         let next = call(&mut self.rng, start);
+        let asks_the_archive = self.rng.chance(1, 4);
         self.writer.case(world)?;
         self.ask(Request::Sound)?;
+        if asks_the_archive {
+            let question = window::question(&mut self.rng, start);
+            self.ask(question)?;
+        }
         self.ask(Request::Entry(next))?;
         Ok(true)
     }
@@ -470,6 +490,29 @@ impl<'a, Q: Write, A: Write> Set<'a, Q, A> {
         self.calls_and_soundness(start, calls)
     }
 
+    /// Sessions on windows of an archive; some go on when its words are others.
+    fn archive_bench(&mut self) -> io::Result<()> {
+        if self.full() {
+            return Ok(());
+        }
+        let (start, requests) = window::bench_case(&mut self.rng);
+        self.writer.case(start)?;
+        for request in requests {
+            self.ask(request)?;
+        }
+        if self.full() || self.rng.chance(1, 2) {
+            return Ok(());
+        }
+        let mut next = self.writer.world().clone();
+        window::other_words(&mut self.rng, &mut next);
+        self.writer.case(next)?;
+        for _ in 0..3 {
+            let request = window::some_request(&mut self.rng, self.writer.world());
+            self.ask(request)?;
+        }
+        Ok(())
+    }
+
     fn calls_and_soundness(&mut self, start: World, calls: Vec<Call>) -> io::Result<()> {
         if self.full() {
             return Ok(());
@@ -491,6 +534,10 @@ impl<'a, Q: Write, A: Write> Set<'a, Q, A> {
         self.writer.case(case.start)?;
         for call in case.calls {
             self.ask(Request::Entry(call))?;
+            if self.rng.chance(1, 8) {
+                let question = window::question(&mut self.rng, self.writer.world());
+                self.ask(question)?;
+            }
         }
         Ok(())
     }

@@ -2,7 +2,7 @@
 //! drawn from the one that is there, in which that session meets a given first
 //! byte near a limit of its own.
 
-use crate::bench::{Record, Slot};
+use crate::bench::{Record, Slot, Window};
 use crate::coverage::{AboutTo, Came};
 use crate::cut;
 use crate::generate::{
@@ -12,6 +12,7 @@ use crate::generate::{
 use crate::machine::{self, Instruction, Kind, Op, Session};
 use crate::pool;
 use crate::segment::Segment;
+use crate::window;
 use crate::world::{blank_bench, World};
 
 /// A world and the number of the session that is looked at.
@@ -37,6 +38,21 @@ fn last_word_is_a_number(bytes: &[u8]) -> bool {
     segment.is_ok_and(|segment| segment.word_positions().contains(&(segment.words - 1)))
 }
 
+/// Shared words that the session does not see.
+fn unseen(rng: &mut Rng, case: &RunCase) -> Vec<u16> {
+    let most = if case.shared.len() > 32_000 { 0 } else { rng.pick(&[0, 0, 1, 4, 7], 0) };
+    (0..most).map(|_| rng.next() as u16).collect()
+}
+
+/// The session's shared words, often with others on both sides, and its window.
+fn shared_words(rng: &mut Rng, case: &RunCase) -> (Vec<u16>, Window) {
+    let mut words = unseen(rng, case);
+    let window = Window { first: words.len() as u64, count: case.shared.len() as u64 };
+    words.extend(&case.shared);
+    words.extend(unseen(rng, case));
+    (words, window)
+}
+
 /// Put a session with its segment on a bench, often between neighbours that
 /// run the same segment; its region touches theirs or the shared words, or
 /// stands apart.
@@ -56,15 +72,16 @@ pub fn placed(rng: &mut Rng, case: &RunCase) -> Place {
     store.extend(&case.segment);
     store.extend(vec![0; rng.pick(&[0, 0, 0, 2, 5], 0)]);
 
-    let mut memory = case.shared.clone();
+    let (mut memory, window) = shared_words(rng, case);
     bench.shared = memory.len() as u64;
-    let mut neighbours = Neighbours { slot, number: session };
+    let mut neighbours = Neighbours { slot, number: session, shared: bench.shared };
     neighbours.add(rng, case, &mut bench.records, &mut memory);
     let record = Record {
         open: true,
         slot,
         base: memory.len() as u64,
         length: case.region.len() as u64,
+        window,
         session: case.session,
     };
     if let Some(place) = bench.records.get_mut(session) {
@@ -83,6 +100,8 @@ struct Neighbours {
     slot: u64,
     /// The last record used.
     number: usize,
+    /// S
+    shared: u64,
 }
 
 impl Neighbours {
@@ -103,8 +122,9 @@ impl Neighbours {
             _ => Kind::Ready,
         };
         let base = memory.len() as u64;
+        let window = window::some_window(rng, self.shared);
         if let Some(record) = records.get_mut(self.number) {
-            *record = Record { open: true, slot: self.slot, base, length, session };
+            *record = Record { open: true, slot: self.slot, base, length, window, session };
         }
         memory.resize((base + length) as usize, rng.pick(&[0, 0, 7], 0));
     }
@@ -115,11 +135,11 @@ pub fn came(world: &World, number: usize) -> Option<Came> {
     let record = world.bench.records.get(number)?;
     let bytes = world.segment_bytes(record.slot)?;
     let segment = Segment::judge(bytes).ok()?;
-    let shared = world.memory.get(..world.bench.shared as usize)?;
+    let seen = world.window(number)?;
     let mut region = world.region(number)?.to_vec();
     let mut session = record.session;
-    let met = AboutTo::meet(&segment, &session, &region);
-    machine::step(&segment, shared, &mut region, &mut session);
+    let met = AboutTo::meet(&segment, record, &region, world.bench.shared);
+    machine::step(&segment, seen, &mut region, &mut session);
     Some(met.came(&segment, &session))
 }
 
@@ -128,7 +148,9 @@ pub fn came(world: &World, number: usize) -> Option<Came> {
 /// than hoped.  `None` if the draw gave nothing sound.
 pub fn draw(rng: &mut Rng, place: &Place, world: &World, hoped: Outcome) -> Option<(World, Came)> {
     let (first, hoped_end) = hoped;
-    let record = *world.bench.records.get(place.session)?;
+    let mut record = *world.bench.records.get(place.session)?;
+    record.window = window::wished(rng, hoped_end, record.window, world.bench.shared);
+    let seen = record.window.count as i64;
     let mut bytes = world.segment_bytes(record.slot)?.to_vec();
     let instruction = first.and_then(machine::instruction);
     if instruction.is_some_and(|row| pool::looks_at_it(row.op)) {
@@ -138,8 +160,9 @@ pub fn draw(rng: &mut Rng, place: &Place, world: &World, hoped: Outcome) -> Opti
     let mut session = registers(rng, &segment, record.length as i64);
     let mut region = world.region(place.session)?.to_vec();
     if let Some(row) = &instruction {
-        set_words(rng, row, &segment, &session, world.bench.shared as i64, &mut region);
+        set_words(rng, row, &segment, &session, seen, &mut region);
     }
+    set_base(rng, hoped, &record, &session, &mut region);
 
     let end = segment.bytes.len() as i64;
     session.counter = end as u64;
@@ -154,13 +177,23 @@ pub fn draw(rng: &mut Rng, place: &Place, world: &World, hoped: Outcome) -> Opti
             _ => rng.between(22, end - size),
         };
         session.counter = u64::try_from(at).ok().filter(|at| *at >= 22)?;
-        let shared_length = world.bench.shared as i64;
-        let view = View { segment: &segment, region: &region, session: &session, shared_length };
+        let view = View { segment: &segment, region: &region, session: &session, shared_length: seen };
         lay_code(rng, first, &view, size, &mut laid);
     }
-    let next = changed(world, place.session, session, &region, &laid)?;
+    record.session = session;
+    let next = changed(world, place.session, record, &region, &laid)?;
     let came = came(&next, place.session)?;
     Some((next, came))
+}
+
+/// Where the window's ends are hoped for, the address on the stack that leads to
+/// them.
+fn set_base(rng: &mut Rng, hoped: Outcome, record: &Record, session: &Session, region: &mut [u16]) {
+    let Some(base) = window::wished_base(rng, hoped, record.window) else { return };
+    let below_the_top = usize::from(hoped.1 >= window::STORED);
+    if let Some(word) = region.get_mut(session.sp as usize + below_the_top) {
+        *word = base;
+    }
 }
 
 /// An instruction at the counter, as far as there is room, and the case table
@@ -237,18 +270,17 @@ fn set_words(
     }
 }
 
-/// The world with new registers, words and segment; only if it is sound.  Code
+/// The world with a new record, words and segment; only if it is sound.  Code
 /// may have been laid over the segment's own words.
 fn changed(
     world: &World,
     number: usize,
-    session: Session,
+    record: Record,
     region: &[u16],
     segment: &[u8],
 ) -> Option<World> {
     let mut next = world.clone();
-    let record = next.bench.records.get_mut(number)?;
-    record.session = session;
+    *next.bench.records.get_mut(number)? = record;
     let base = record.base as usize;
     let start = next.bench.slots.get(record.slot as usize)?.start as usize;
     next.memory.get_mut(base..base + region.len())?.copy_from_slice(region);

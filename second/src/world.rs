@@ -2,7 +2,8 @@
 //! that can be put to it, and the interpreter's answers.  The generator and
 //! the table of hand-worked cases make worlds, `cases` writes them as lines.
 
-use crate::bench::{self, Bench, Record, Slot};
+use crate::archive;
+use crate::bench::{self, Bench, Record, Slot, Window};
 use crate::segment::{self, Refusal, Segment};
 
 /// A bench with what is lent.
@@ -41,6 +42,12 @@ impl World {
         let end = record.base.checked_add(record.length)?;
         self.memory.get(usize::try_from(record.base).ok()?..usize::try_from(end).ok()?)
     }
+
+    /// The shared words that an open session sees.
+    pub fn window(&self, session: usize) -> Option<&[u16]> {
+        let shared = self.memory.get(..usize::try_from(self.bench.shared).ok()?)?;
+        self.bench.records.get(session)?.window.words(shared)
+    }
 }
 
 /// An entry asked for.
@@ -49,6 +56,10 @@ pub enum Call {
     New { shared: u64, words: u64 },
     Load { slot: u64, start: u64, length: u64 },
     Open { slot: u64, length: u64 },
+    /// An opening that names its window.
+    OpenOn { slot: u64, length: u64, window: Window },
+    /// An opening for a farm of the archive; modulo 65,536.
+    OpenFor { slot: u64, length: u64, farm: u64 },
     Turn { session: u64, k: u64 },
     Close { session: u64 },
 }
@@ -66,6 +77,12 @@ pub fn ask(world: &mut World, call: Call) -> Result<u64, Refusal> {
             bench::load(bench, memory, store, slot, start, length).map(|()| 0)
         }
         Call::Open { slot, length } => bench::open(bench, memory, store, slot, length),
+        Call::OpenOn { slot, length, window } => {
+            bench::open_on(bench, memory, store, slot, length, window)
+        }
+        Call::OpenFor { slot, length, farm } => {
+            archive::open_for(bench, memory, store, slot, length, farm as u16)
+        }
         Call::Turn { session, k } => bench::turn(bench, memory, store, session, k),
         Call::Close { session } => bench::close(bench, memory, store, session).map(|()| 0),
     }
@@ -80,6 +97,10 @@ pub enum Request {
     TurnOver(u64),
     /// Whether the bench is sound.
     Sound,
+    /// Judge the shared words as an archive.
+    Archive,
+    /// Where a farm's records are; modulo 65,536.
+    Farm(u64),
     Entry(Call),
 }
 
@@ -106,6 +127,8 @@ pub enum Answer {
     /// The output, and the refusal if there was one.
     TurnedOver(Vec<u8>, Option<Refusal>),
     Sound(bool),
+    Accepted,
+    Range(Window),
     Done(u64),
     Refused(Refusal),
 }
@@ -123,6 +146,16 @@ pub fn request(world: &mut World, request: Request) -> Answer {
             Answer::TurnedOver(output, refusal)
         }
         Request::Sound => Answer::Sound(world.is_sound()),
+        Request::Archive => match archive::judge(&world.bench, &world.memory, &world.store) {
+            Ok(_) => Answer::Accepted,
+            Err(refusal) => Answer::Refused(refusal),
+        },
+        Request::Farm(farm) => {
+            match archive::range(&world.bench, &world.memory, &world.store, farm as u16) {
+                Ok(window) => Answer::Range(window),
+                Err(refusal) => Answer::Refused(refusal),
+            }
+        }
         Request::Entry(call) => match ask(world, call) {
             Ok(value) => Answer::Done(value),
             Err(refusal) => Answer::Refused(refusal),

@@ -124,7 +124,7 @@ fn step(world: &World, after: &World, number: usize) -> Option<Step> {
 fn turn(world: &World, number: usize, k: u64) -> Option<Turn> {
     let (record, segment) = (world.bench.records[number], segment_of(world, number)?);
     let (mut region, mut session) = (world.region(number)?.to_vec(), record.session);
-    let shared = &world.memory[..world.bench.shared as usize];
+    let shared = world.window(number)?;
     let mut sps = Vec::new();
     for _ in 0..k {
         if session.kind == Kind::Ready {

@@ -1,7 +1,8 @@
 //! What is worked by hand and is no request: the table of first bytes, the
 //! reader of operands, word positions, and the format's digest.
 
-use second::bench::Runner;
+use second::archive::is_accepted;
+use second::bench::{Runner, Window};
 use second::cases::digest;
 use second::fast;
 use second::generate::SMALL;
@@ -159,4 +160,34 @@ fn the_digest() {
     assert_eq!(digest([255, 256]), 4_278_293_101);
     // 256 * 16777619 = 4295070464, which leaves 103173
     assert_eq!(digest([256, 0]), 103_173);
+}
+
+/// 02, request 7: "A window not inside the S words"; its words among the S words.
+#[test]
+fn windows_and_their_words() {
+    let shared = [10, 11, 12, 13, 14];
+    let window = |first, count| Window { first, count };
+    for (first, count, words) in [
+        (0, 5, &[10, 11, 12, 13, 14][..]), (1, 3, &[11, 12, 13]), (4, 1, &[14]), (5, 0, &[]), (0, 0, &[]), (2, 0, &[]),
+    ] {
+        assert!(window(first, count).is_inside(5));
+        assert_eq!(window(first, count).words(&shared), Some(words));
+    }
+    for (first, count) in [(6, 0), (5, 1), (0, 6), (1, 5), (u64::MAX, 1), (u64::MAX, 6), (2, u64::MAX), (1 << 63, 1 << 63)] {
+        assert!(!window(first, count).is_inside(5));
+        assert_eq!(window(first, count).words(&shared), None);
+    }
+    assert!(Window::NONE.is_inside(0) && Window::all(0) == Window::NONE);
+}
+
+/// 02, request 7: "accepted exactly if S is a multiple of 4 and farm numbers never
+/// fall from one record to the next".
+#[test]
+fn archives() {
+    assert!(is_accepted(&[]));
+    assert!(is_accepted(&[5, 9, 9, 9, 5, 0, 0, 0, 6, 0, 0, 0]));
+    assert!(is_accepted(&[32_767, 0, 0, 0, 32_768, 0, 0, 0]));
+    assert!(!is_accepted(&[5, 0, 0, 0, 4, 0, 0, 0]));
+    assert!(!is_accepted(&[5, 0, 0, 0, 6]));
+    assert!(!is_accepted(&[65_535, 0, 0, 0, 0, 0, 0, 0]));
 }

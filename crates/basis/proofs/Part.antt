@@ -2,11 +2,12 @@
 -- A section's parameters come first: a e m, a ≤ e, e ≤ length m; then ys and its length e - a.
 -- Assumes nothing.
 use mathlib.Core.Path.{_≡_, sym, ap, _∙_}
-use mathlib.Core.List.{List, [], _++_}
+use mathlib.Core.List.{List, [], _++_, append-assoc}
 use Prim.Native.Nat.{ℕ, _+_, _-_, _≤_, _<_}
 use native.Mathlib.Omega.{arith}
+use native.Mathlib.Nat.{zero-add}
 use lib.ListN.{length, take, drop, getD, length-append, length-take, length-drop, take-append-drop, drop-of-length-le, List·getD-append}
-use lib.Seq.{take-at, drop-at, take-append-le, take-take, take-nil, take-all, length-take-le, getD-take, getD-drop}
+use lib.Seq.{take-at, drop-at, take-append-le, drop-append-le, take-take, take-add, drop-drop, take-nil, take-all, length-take-le, getD-take, getD-drop, ext-getD}
 use Rattle.basis.specs.Part.{part, splice}
 
 module _ (a e : ℕ) (m : List ℕ) (o : a ≤ e) (fits : e ≤ length m) where
@@ -64,6 +65,61 @@ module _ (a e : ℕ) (m : List ℕ) (o : a ≤ e) (fits : e ≤ length m) where
     getD-above j h =
         let q : j ≡ a + ((e - a) + (j - e)) = omega arith in
         rw q (getD-high (j - e))
+
+-- a part of a part, and a part of a part replaced: the words from a up to b of those from f up to e
+module _ (f e : ℕ) (m : List ℕ) (o : f ≤ e) (fits : e ≤ length m) (a b : ℕ) (p : a ≤ b) (q : f + b ≤ e) where
+  within : b ≤ length (part f e m)
+  within = rw (length-part f e m o fits) (omega arith)
+
+  pub part-part : part a b (part f e m) ≡ part (f + a) (f + b) m
+  part-part =
+      let inner = length-part a b (part f e m) p within in
+      let outer = length-part (f + a) (f + b) m (omega arith) (omega arith) in
+      ext-getD 0 (part a b (part f e m)) (part (f + a) (f + b) m) (inner ∙ sym (outer ∙ omega arith))
+      (λ i h.
+      let lt : i < b - a = rw inner at h in
+      let at : f + (a + i) ≡ f + a + i = omega arith in
+      getD-part a b (part f e m) p within i lt
+      ∙ getD-part f e m o fits (a + i) (omega arith)
+      ∙ ap (λ (k : ℕ). getD m k 0) at
+      ∙ sym (getD-part (f + a) (f + b) m (omega arith) (omega arith) i (omega arith)))
+
+  front : take f m ++ take a (part f e m) ≡ take (f + a) m
+  unfolding part
+  front = rw (take-take a (e - f) (drop f m) (omega arith)) (sym (take-add f a m))
+
+  back : drop (b - a) (drop a (part f e m)) ++ drop (e - f) (drop f m) ≡ drop (f + b - (f + a)) (drop (f + a) m)
+  unfolding part
+  back =
+      let low : a + (b - a) ≡ b = omega arith in
+      let high : f + a + (f + b - (f + a)) ≡ f + b = omega arith in
+      rw (drop-drop (b - a) a (part f e m), low, drop-drop (f + b - (f + a)) (f + a) m, high)
+      (sym (drop-append-le b (part f e m) (drop (e - f) (drop f m)) within)
+      ∙ ap (drop b) (take-append-drop (e - f) (drop f m))
+      ∙ drop-drop b f m)
+
+  pub splice-part : (ys : List ℕ) → splice f e (splice a b ys (part f e m)) m ≡ splice (f + a) (f + b) ys m
+  unfolding splice
+  splice-part ys =
+      let head = take a (part f e m) in
+      let rest = drop (b - a) (drop a (part f e m)) in
+      let end = drop (e - f) (drop f m) in
+      ap (λ (l : List ℕ). take f m ++ l) (append-assoc head (ys ++ rest) end)
+      ∙ sym (append-assoc (take f m) head (ys ++ rest ++ end))
+      ∙ (λ i. front i ++ (append-assoc ys rest end ∙ ap (λ (l : List ℕ). ys ++ l) back) i)
+
+-- the first words of a part, and a part of the first words
+pub take-part : (f e : ℕ) (m : List ℕ) (n : ℕ) → f + n ≤ e → take n (part f e m) ≡ part f (f + n) m
+unfolding part
+take-part f e m n h = let size : f + n - f ≡ n = omega arith in rw size (take-take n (e - f) (drop f m) (omega arith))
+
+from-zero : (s : ℕ) (m : List ℕ) → part 0 s m ≡ take s m
+unfolding part
+from-zero s m = let size : s - 0 ≡ s = omega arith in rw size
+
+pub part-take : (s : ℕ) (m : List ℕ) (a b : ℕ) → a ≤ b → b ≤ s → s ≤ length m → part a b (take s m) ≡ part a b m
+part-take s m a b p q fits =
+    rw (from-zero s m, zero-add a, zero-add b) at (part-part 0 s m (omega arith) fits a b p (omega arith))
 
 -- the len bytes from start on: none from the end on, all that are left where they are too few, else len of them
 -- the part from 0 on, as the borrow checker has `&l[0..]`

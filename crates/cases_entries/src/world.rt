@@ -84,11 +84,11 @@ fn follow(b: Bench, memory: &mut [u16], store: &mut [u8], what: u8, text: &[u8])
             b
         }
         b'z' | b'n' | b's' | b'e' | b'r' => setup::bench(b, what, numbers(text)),
-        b'J' | b'V' | b'Q' => {
+        b'J' | b'V' | b'Q' | b'A' | b'G' => {
             cases_requests::look(b, memory, store, what, numbers(text));
             b
         }
-        b'N' | b'L' | b'O' | b'T' | b'X' => cases_requests::enter(
+        b'N' | b'L' | b'O' | b'W' | b'F' | b'T' | b'X' => cases_requests::enter(
             b,
             memory,
             store,

@@ -8,6 +8,7 @@ use plan::Regs;
 use sound::Bench;
 use sound::Session;
 use sound::Slot;
+use sound::Window;
 
 pub fn fill_words(words: &mut [u16], v: u64) {
     let x = (v % 65536) as u16;
@@ -112,7 +113,16 @@ fn region(se: Session, v: [u64; NUMBERS]) -> Session {
     out.slot = v[2] as usize;
     out.base = v[3] as usize;
     out.len = v[4] as usize;
+    out.window = window(v[5], v[6]);
     out
+}
+
+// A window of any numbers.
+pub fn window(first: u64, len: u64) -> Window {
+    Window {
+        first: first as usize,
+        len: len as usize,
+    }
 }
 
 fn registers(se: Session, v: [u64; NUMBERS]) -> Session {

@@ -1,11 +1,13 @@
 // What a line with a capital letter asks of the proved entry points; docs/CASES.md has the format.
-// Above it: `cases_entries`, which reads the lines. Below it: segments, their turning and the bench, each asked by its public entry points; and
+// Above it: `cases_entries`, which reads the lines. Below it: segments, their turning, the bench and the archive, each asked by its public entry points; and
 // `cases_lines`, which tells an answer. An output longer than the longest is the longest.
+use archive::Found;
 use bench::Answer;
 use bench::Out;
 use cases_lines::answers;
 use cases_lines::digest;
 use cases_lines::numbers::NUMBERS;
+use cases_lines::setup::window;
 use cases_lines::tell::tell;
 use segment::Segment;
 use segment::Verdict;
@@ -22,6 +24,12 @@ pub fn look(b: Bench, memory: &[u16], store: &[u8], what: u8, v: [u64; NUMBERS])
         }
         b'V' => {
             turn(store, v[0]);
+        }
+        b'A' => {
+            archive_judged(b, memory, store);
+        }
+        b'G' => {
+            range(b, memory, store, v[0]);
         }
         _ => {
             is_sound(b, memory, store);
@@ -122,7 +130,41 @@ fn is_sound(b: Bench, memory: &[u16], store: &[u8]) {
     }
 }
 
-// An entry of the bench: asked, answered, and the bench after it.
+fn archive_judged(b: Bench, memory: &[u16], store: &[u8]) {
+    let none = [0u64; 0];
+    let v = archive::accept(b, memory, store);
+    match v {
+        Verdict::Accepted => {
+            tell(b'a', &none, &none);
+        }
+        Verdict::Refused { number, place } => {
+            let n = [number as u64, place as u64];
+            tell(b'r', &n, &none);
+        }
+    }
+}
+
+// A farm number is a word.
+fn farm(v: u64) -> u16 {
+    (v % 65536) as u16
+}
+
+fn range(b: Bench, memory: &[u16], store: &[u8], number: u64) {
+    let none = [0u64; 0];
+    let found = archive::range(b, memory, store, farm(number));
+    match found {
+        Found::At(w) => {
+            let n = [w.first as u64, w.len as u64];
+            tell(b'a', &n, &none);
+        }
+        Found::Refused(number, place) => {
+            let n = [number as u64, place as u64];
+            tell(b'r', &n, &none);
+        }
+    }
+}
+
+// An entry of the bench, or of the archive: asked, answered, and the bench after it.
 pub fn enter(b: Bench, memory: &mut [u16], store: &[u8], what: u8, v: [u64; NUMBERS]) -> Bench {
     let out = entered(b, memory, store, what, v);
     let after = out.bench;
@@ -138,6 +180,8 @@ fn entered(b: Bench, memory: &mut [u16], store: &[u8], what: u8, v: [u64; NUMBER
         b'N' => renewed(b, i, n),
         b'L' => bench::load(b, memory, store, i, n, v[2] as usize),
         b'O' => bench::open_session(b, memory, store, i, n),
+        b'W' => bench::open_window(b, memory, store, i, n, window(v[2], v[3])),
+        b'F' => archive::open_farm(b, memory, store, i, n, farm(v[2])),
         b'T' => bench::turn(b, memory, store, i, v[1]),
         _ => bench::close(b, memory, store, i),
     }

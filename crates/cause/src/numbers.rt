@@ -10,8 +10,8 @@ ghost use lib.ListN.{getD};
 // A number that no lawful one reaches.
 const HUGE: u16 = 65535;
 
-// `code` is 2W, the bytes of the segment, `floor` is 6+G, `count` the number of routines, `len` is L and `shared` is S. `kept` says
-// whether every number is one that a session can have; where it is not, nothing here means anything.
+// `code` is 2W, the bytes of the segment, `floor` is 6+G, `count` the number of routines, `len` is L and `shared` the number of words in its window. `kept`
+// says whether every number is one that a session can have; where it is not, nothing here means anything.
 pub struct Numbers {
     pub kept: bool,
     pub code: u16,

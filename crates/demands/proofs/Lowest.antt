@@ -12,11 +12,12 @@ use Rattle.pmachine.proofs.Lowest.{run-lowest, fresh-lowest}
 use Rattle.interleave.specs.Interleave.{mine}
 use Rattle.session.specs.Session.{stateOf, startOf, runOf}
 use Rattle.sound.specs.declared.Session.{Session}
-use Rattle.sound.specs.Bench.{World, sessionAt, sharedOf, codeAt, stateAt}
+use Rattle.sound.specs.declared.Window.{Window}
+use Rattle.sound.specs.Bench.{World, sessionAt, codeAt, windowAt, stateAt}
 use Rattle.sound.specs.Sound.{Sound}
 use Rattle.entry.specs.declared.Answer.the-variants.{Done}
-use Rattle.entry.specs.Entries.{openOf}
-use Rattle.promises.specs.Requests.{opening}
+use Rattle.entry.specs.Entries.{windowOpenOf}
+use Rattle.promises.specs.Requests.{opening-on}
 use Rattle.promises.proofs.Requests.{stays-sound}
 use Rattle.promises.proofs.Openings.{opened-is}
 use Rattle.isolation.specs.Isolation.{Turn, after, stepsOf}
@@ -53,13 +54,14 @@ module _ (store : List ℕ) (w : World) (i : ℕ) (ts : List Turn) where
   since g u is =
       let own = isolation .on-its-own store ts w g i u .registers in
       let end = ap (λ (se : Session). se .cpu .regs .lowest) own in
-      let h = fresh-lowest (codeAt store w i) (sharedOf w) (stepsOf (mine i ts)) (stateOf (stateAt w i)) is in
+      let h = fresh-lowest (codeAt store w i) (windowAt w i) (stepsOf (mine i ts)) (stateOf (stateAt w i)) is in
       record { each = λ k m. rw end (h .each k m); steps = h .steps; most = h .most; there = h .there ∙ sym end }
 
-pub lowest-since : (store : List ℕ) (w : World) (slot len i : ℕ) (ts : List Turn) → Sound store w → openOf store slot len w .answer ≡ Done i
-    → LowestSince store ts (openOf store slot len w .world) i
+pub lowest-since : (store : List ℕ) (w : World) (slot len : ℕ) (v : Window) (i : ℕ) (ts : List Turn) → Sound store w
+    → windowOpenOf store slot len v w .answer ≡ Done i
+    → LowestSince store ts (windowOpenOf store slot len v w .world) i
 unfolding startOf starting
-lowest-since store w slot len i ts g e =
-    let made = opened-is store w slot len g i e .made in
-    since store (openOf store slot len w .world) i ts (stays-sound store (opening slot len) w g) (ap (λ (se : Session). se .used) made)
+lowest-since store w slot len v i ts g e =
+    let made = opened-is store w slot len v g i e .made in
+    since store (windowOpenOf store slot len v w .world) i ts (stays-sound store (opening-on slot len v) w g) (ap (λ (se : Session). se .used) made)
     (ap (λ (se : Session). se .cpu .regs .lowest) made ∙ sym (ap (λ (se : Session). se .cpu .regs .sp) made))

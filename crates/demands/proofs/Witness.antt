@@ -14,18 +14,20 @@ use Rattle.pmachine.specs.Opcode.{opcode, rowIn, appendixB}
 use Rattle.pmachine.specs.Decoding.{joined, andThen, operands, lawful, allLawful, decodedWith, rowDecoded, decode, comesTo, rowComesTo, fetchesTo}
 use Rattle.basis.specs.Integer.{modulo, integerOf, wordOf, binary, truth, ordered, subOf, leqOf}
 use Rattle.pmachine.specs.Pool.{inPool, swaps, wordsFrom, constantsOf, onTop, inTable, armOffset}
-use Rattle.pmachine.specs.Step.{target, caseTarget, reached, markAt, resumes, groundFor, firstFault, asks, effect, outcome, judgedBy, judge}
+use Rattle.pmachine.specs.Step.{wordAt, target, caseTarget, reached, markAt, resumes, groundFor, firstFault, asks, effect, outcome, judgedBy, judge}
 use Rattle.pmachine.specs.Sound.{kindInRange, inRange, starting}
 use Rattle.pmachine.specs.Run.{isReady, written, placeOf, settled, step, run, stepsDone}
 use Rattle.session.specs.Session.{startOf, cpuOk, runOf, countOf}
 use Rattle.sound.specs.Bench.{worldOf}
 use Rattle.sound.specs.Sound.{limitsOk, slotOk, placed, apart, sessionOk, soundB, Sound}
 use Rattle.entry.specs.Answer.{answerRuling, refusing}
-use Rattle.entry.specs.Entries.{newOf, loadOf, lenOk, gapAt, gapOf, openOf, turnOf, closeOf}
+use Rattle.entry.specs.Entries.{newOf, loadOf, lenOk, gapAt, gapOf, windowOpenOf, turnOf, closeOf}
+use Rattle.archive_records.specs.Records.{neverFalls, howMany, firstOf}
+use Rattle.archive.specs.Archive.{rangeAnswer, farmOpenOf}
 use Rattle.promises.specs.Requests.{loading, opening, turning}
 use Rattle.promises.proofs.Kept.{new-sound}
 use Rattle.promises.proofs.Requests.{stays-sound}
-use Rattle.demands.specs.Witness.{segment, unlinked, declared, linking, calling, short, ranOut, earlier, word as byteSexed, units, pools, reporting, reported, popped, lowestAt, store, loaded, opened, ran, openings, full, Witness}
+use Rattle.demands.specs.Witness.{segment, unlinked, declared, linking, calling, short, ranOut, earlier, word as byteSexed, units, pools, reporting, reported, popped, lowestAt, reads, archived, farmed, read, seeing, store, loaded, opened, ran, openings, full, Witness}
 
 made : answerRuling (newOf 56 4 .answer) ≡ passed
 unfolding newOf limitsOk every
@@ -52,7 +54,8 @@ unfolding segment unlinked declared linking calling short ranOut earlier byteSex
     appendixB joined andThen operands lawful allLawful decodedWith rowDecoded decode modulo integerOf wordOf binary truth ordered subOf leqOf inPool
     swaps wordsFrom constantsOf onTop inTable armOffset target caseTarget reached markAt resumes groundFor firstFault asks effect outcome judgedBy
     judge kindInRange inRange starting isReady written comesTo rowComesTo fetchesTo placeOf settled step run stepsDone startOf cpuOk runOf countOf
-    limitsOk slotOk placed apart sessionOk soundB refusing newOf loadOf lenOk gapAt gapOf openOf turnOf closeOf
+    limitsOk slotOk placed apart sessionOk soundB refusing newOf loadOf lenOk gapAt gapOf windowOpenOf turnOf closeOf
+    reads archived farmed read seeing wordAt neverFalls howMany firstOf rangeAnswer farmOpenOf
 witness =
     record {
       sound = ran-sound;
@@ -82,6 +85,18 @@ witness =
       lowest-sound = (refl, refl);
       lowest-below = refl;
       lowest-above = (refl, refl);
+      own-range = (refl, refl, refl);
+      own-records = (refl, refl);
+      no-rival = (refl, refl);
+      no-records = refl;
+      all-shared = refl;
+      falls = (refl, refl);
+      falls-unsound = refl;
+      equal-farms = refl;
+      bad-slot = refl;
+      window-at-end = (refl, refl);
+      window-past = (refl, refl);
+      window-wraps = (refl, refl);
       no-bench = refl;
       not-sound = refl;
       no-session = refl;

@@ -3,10 +3,10 @@
 -- entries are these definitions is said by the functions of src/, which state every entry's contract again. docs/PROMISES.md follows this file.
 use mathlib.Core.Path.{_≡_}
 use mathlib.Core.Logic.{_↔_, _⊎_}
-use mathlib.Core.List.{List, [], _++_, map}
+use mathlib.Core.List.{List, [], _∷_, _++_, map}
 use mathlib.Core.Bool.{Bool, true, false, not, _&&_, _||_, cond}
-use Prim.Native.Nat.{ℕ, suc, _+_, _*_, _-_, _/_, _≤_, _<_, min}
-use lib.ListN.{length, getD, take, drop}
+use Prim.Native.Nat.{ℕ, suc, _+_, _*_, _-_, _/_, _%_, _≤_, _<_, min}
+use lib.ListN.{length, getD, set, take, drop}
 use lib.Dec.{leb, ltb}
 use lib.IntN.{ℤ, pos, negsuc, negℤ, natAbs, _+ℤ_, _*ℤ_}
 use lib.Signed.{quotZ, remZ, leZ}
@@ -19,22 +19,27 @@ use Rattle.segment.specs.Head.{words, least, word, dict, reloc, pool, realPool,
 use Rattle.segment.specs.Judge.{headChecks, routineChecks, checks, judged}
 use Rattle.pmachine.specs.State.{Registers, Kind, faulted, State}
 use Rattle.pmachine.specs.Opcode.{appendixB, consecutive}
-use Rattle.pmachine.specs.Decoding.{faulty, decode}
+use Rattle.pmachine.specs.Meaning.{index}
+use Rattle.pmachine.specs.Decoding.{Instruction, instruction, faulty, decode}
 use Rattle.pmachine.specs.Pool.{inPool, swaps, constantsOf, onTop, lowest, highest, inTable, armOffset}
 use Rattle.pmachine.specs.Step.{fault, goes, floor, moved, lowered, caseTarget, judge}
 use Rattle.pmachine.specs.Run.{isReady, placeOf, step, run, stepsDone}
 use Rattle.pmachine.specs.Sound.{inRange, opened as openedOn, Loaded}
+use Rattle.plan.specs.Answer.{regsOf}
 use Rattle.pmachine.specs.Pushed.{IsLdc, IsXjp, SamePool}
 use Rattle.turning.specs.Turn.{framed, position, swapAt, turned, turnRuling, outputOf}
 use Rattle.interleave.specs.Interleave.{By, mine, oneByOne, Below}
 use Rattle.sound.specs.Below.{startOf, cpuOf, runOf, countOf}
-use Rattle.sound.specs.Bench.{noSession, codeOf, slotAt, World, worldOf, sessionAt, sharedOf, wordsOf, codeAt, stateAt, at-cpu, at-sessions}
-use Rattle.sound.specs.Sound.{limitsOk, Sound}
+use Rattle.sound.specs.declared.Window.{Window}
+use Rattle.sound.specs.Bench.{noSession, codeOf, slotAt, World, worldOf, sessionAt, sharedOf, wordsOf, codeAt, windowAt, stateAt, at-cpu, at-window, at-sessions}
+use Rattle.sound.specs.Sound.{limitsOk, insideShared, soundB, Sound}
 use Rattle.entry.specs.declared.Out.{Out}
 use Rattle.entry.specs.declared.Answer.{Answer}
 use Rattle.entry.specs.declared.Answer.the-variants.{Done, Refused}
 use Rattle.entry.specs.Answer.{answerRuling, Result, resultOf}
-use Rattle.entry.specs.Entries.{newOf, loadedAt, lenOk, recordFor, openOf, fresh, openAt, closeOf}
+use Rattle.entry.specs.Entries.{newOf, loadedAt, lenOk, recordFor, openOf, windowOpenOf, fresh, openAt, closeOf}
+use Rattle.archive_records.specs.Records.{recordsIn, farmAt, accepted, firstFall, rangeOf, recordsOf, ownRecords}
+use Rattle.archive.specs.Archive.{farmOpenOf}
 use Rattle.promises.specs.Requests.{Request, asked, checksFor}
 use Rattle.promises.specs.Words.{InRegion, Free, GapFrom}
 use Rattle.isolation.specs.Isolation.{Turn, after, answersOf, stepsOf, reported, reportsOf}
@@ -55,15 +60,15 @@ pub record OnlyThere (w v : World) (i a len : ℕ) : Type 0 where
   pub same-others : (j : ℕ) → (j ≡ i → ⊥) → sessionAt v j ≡ sessionAt w j
 
 -- "Opening gives the lowest gap that fits, from word S up, and the lowest unused record, sets every word of the region to zero, and
--- starts routine 1."
-pub record Opened (store : List ℕ) (slot len : ℕ) (w v : World) (i : ℕ) : Type 0 where
+-- starts routine 1." Request 7: its record has the window that was named
+pub record Opened (store : List ℕ) (slot len : ℕ) (view : Window) (w v : World) (i : ℕ) : Type 0 where
   pub place : ℕ
   pub gap : GapFrom w len place
   pub lowest-gap : (b : ℕ) → b < place → GapFrom w len b → ⊥
   pub low : i ≤ 15
   pub unused : sessionAt w i .used ≡ false
   pub lowest-record : (j : ℕ) → j < i → sessionAt w j .used ≡ true
-  pub made : sessionAt v i ≡ fresh slot place len (startOf (codeOf store (slotAt (w .bench .slots) slot)) len)
+  pub made : sessionAt v i ≡ fresh slot place len view (startOf (codeOf store (slotAt (w .bench .slots) slot)) len)
   pub only : OnlyThere w v i place len
 
 -- "Closing zeroes the region and frees region and record."
@@ -129,14 +134,14 @@ pub record OtherSex (s t : List ℕ) : Type 0 where
   -- "turned twice gives its first bytes"
   pub twice : turned t ≡ s
 
--- ---- session i after the turns ts: what the documented machine makes of its own state, on its own region, its own code and the shared words, in
--- as many steps as its own turns come to
+-- ---- session i after the turns ts: what the documented machine makes of its own state, on its own region, its own code and the shared words of its
+-- window, in as many steps as its own turns come to
 
 pub record OnItsOwn (store : List ℕ) (ts : List Turn) (w : World) (i : ℕ) : Type 0 where
-  pub words : wordsOf (after store ts w) (sessionAt w i) ≡ runOf (stepsOf (mine i ts)) (codeAt store w i) (sharedOf w) (stateAt w i) .words
-  pub registers : sessionAt (after store ts w) i ≡ at-cpu (sessionAt w i) (cpuOf (runOf (stepsOf (mine i ts)) (codeAt store w i) (sharedOf w) (stateAt w i)))
-  pub answers : mine i (answersOf store ts w) ≡ reportsOf (codeAt store w i) (sharedOf w) (mine i ts) (stateAt w i)
-  pub counts : reported (mine i (answersOf store ts w)) ≡ countOf (stepsOf (mine i ts)) (codeAt store w i) (sharedOf w) (stateAt w i)
+  pub words : wordsOf (after store ts w) (sessionAt w i) ≡ runOf (stepsOf (mine i ts)) (codeAt store w i) (windowAt w i) (stateAt w i) .words
+  pub registers : sessionAt (after store ts w) i ≡ at-cpu (sessionAt w i) (cpuOf (runOf (stepsOf (mine i ts)) (codeAt store w i) (windowAt w i) (stateAt w i)))
+  pub answers : mine i (answersOf store ts w) ≡ reportsOf (codeAt store w i) (windowAt w i) (mine i ts) (stateAt w i)
+  pub counts : reported (mine i (answersOf store ts w)) ≡ countOf (stepsOf (mine i ts)) (codeAt store w i) (windowAt w i) (stateAt w i)
 
 -- ---- session i after the turns ts, from a world in which it has just been opened: the lowest stack pointer of its record is the least SP that the
 -- documented machine gives it, from the opening on to after the last step of its own turns, and it had that SP
@@ -144,20 +149,44 @@ pub record OnItsOwn (store : List ℕ) (ts : List Turn) (w : World) (i : ℕ) : 
 pub record LowestSince (store : List ℕ) (ts : List Turn) (w : World) (i : ℕ) : Type 0 where
   pub each :
       (k : ℕ) → k ≤ stepsOf (mine i ts)
-      → sessionAt (after store ts w) i .cpu .regs .lowest ≤ runOf k (codeAt store w i) (sharedOf w) (stateAt w i) .cpu .regs .sp
+      → sessionAt (after store ts w) i .cpu .regs .lowest ≤ runOf k (codeAt store w i) (windowAt w i) (stateAt w i) .cpu .regs .sp
   pub steps : ℕ
   pub most : steps ≤ stepsOf (mine i ts)
-  pub there : runOf steps (codeAt store w i) (sharedOf w) (stateAt w i) .cpu .regs .sp ≡ sessionAt (after store ts w) i .cpu .regs .lowest
+  pub there : runOf steps (codeAt store w i) (windowAt w i) (stateAt w i) .cpu .regs .sp ≡ sessionAt (after store ts w) i .cpu .regs .lowest
 
--- session i of one world and session j of another: both are open, and agree on registers, kind, region, code and shared words. Record
--- numbers, slots, places in memory, the memories' sizes and all that other sessions hold may differ.
+-- session i of one world and session j of another: both are open, and agree on registers, kind, region, code and the words of their windows. Record
+-- numbers, slots, places in memory and of the windows, S, all other shared words, the memories' sizes and all that other sessions hold may differ.
 pub record Alike (store : List ℕ) (w : World) (i : ℕ) (store′ : List ℕ) (w′ : World) (j : ℕ) : Type 0 where
   pub open-here : sessionAt w i .used ≡ true
   pub open-there : sessionAt w′ j .used ≡ true
   pub cpu : sessionAt w i .cpu ≡ sessionAt w′ j .cpu
   pub words : wordsOf w (sessionAt w i) ≡ wordsOf w′ (sessionAt w′ j)
   pub code : codeAt store w i ≡ codeAt store′ w′ j
-  pub shared : sharedOf w ≡ sharedOf w′
+  pub window : windowAt w i ≡ windowAt w′ j
+
+-- session i of one world and session j of another, both on the range of a farm, with the same records of that farm: alike besides in registers, kind,
+-- region and code. Every other record of the archives, S, where the farm's records begin, and all that other sessions hold may differ.
+pub record OfFarm (farm : ℕ) (store : List ℕ) (w : World) (i : ℕ) (store′ : List ℕ) (w′ : World) (j : ℕ) : Type 0 where
+  pub open-here : sessionAt w i .used ≡ true
+  pub open-there : sessionAt w′ j .used ≡ true
+  pub range-here : sessionAt w i .window ≡ rangeOf (sharedOf w) farm
+  pub range-there : sessionAt w′ j .window ≡ rangeOf (sharedOf w′) farm
+  pub records : recordsOf (sharedOf w) farm ≡ recordsOf (sharedOf w′) farm
+  pub cpu : sessionAt w i .cpu ≡ sessionAt w′ j .cpu
+  pub words : wordsOf w (sessionAt w i) ≡ wordsOf w′ (sessionAt w′ j)
+  pub code : codeAt store w i ≡ codeAt store′ w′ j
+
+-- what such a session answers to its turns, and how it ends
+pub record NoOtherFarm (farm : ℕ) (store store′ : List ℕ) (ts us : List Turn) (w w′ : World) (i j : ℕ) : Type 0 where
+  pub answers : mine i (answersOf store ts w) ≡ mine j (answersOf store′ us w′)
+  pub ends : OfFarm farm store (after store ts w) i store′ (after store′ us w′) j
+
+-- the first record of an archive that falls, of the records 1 to n - 1
+pub record FirstFall (a : List ℕ) (r : ℕ) : Type 0 where
+  pub some : 1 ≤ r
+  pub last : r < recordsIn a
+  pub falls : farmAt a r < farmAt a (r - 1)
+  pub first : (q : ℕ) → q + 1 < r → farmAt a q ≤ farmAt a (q + 1)
 
 pub record Demands : Type 0 where
   -- ======== 1: "Any bytes, any numbers, any bench may be handed to any entry point. It ends, and either does the work or gives one numbered
@@ -194,11 +223,40 @@ pub record Demands : Type 0 where
   pub stays-sound : (store : List ℕ) (q : Request) (w : World) → Sound store w → Sound store (asked store q w .world)
   -- if 11 to 14 do not apply: refusal 15 exactly when there is no gap of L free words; else the session is opened
   pub fifteen :
-      (store : List ℕ) (w : World) (slot len : ℕ) → Sound store w → loadedAt w slot ≡ true → lenOk (codeOf store (slotAt (w .bench .slots) slot)) len ≡ true
-      → recordFor w ≤ 15 → (answerRuling (openOf store slot len w .answer) ≡ refused 15 0) ↔ ((a : ℕ) → GapFrom w len a → ⊥)
+      (store : List ℕ) (w : World) (slot len : ℕ) (v : Window) → Sound store w → loadedAt w slot ≡ true
+      → lenOk (codeOf store (slotAt (w .bench .slots) slot)) len ≡ true → insideShared (w .bench .s) v ≡ true → recordFor w ≤ 15
+      → (answerRuling (windowOpenOf store slot len v w .answer) ≡ refused 15 0) ↔ ((a : ℕ) → GapFrom w len a → ⊥)
   pub opened :
-      (store : List ℕ) (w : World) (slot len i : ℕ) → Sound store w → openOf store slot len w .answer ≡ Done i
-      → Opened store slot len w (openOf store slot len w .world) i
+      (store : List ℕ) (w : World) (slot len : ℕ) (v : Window) (i : ℕ) → Sound store w → windowOpenOf store slot len v w .answer ≡ Done i
+      → Opened store slot len v w (windowOpenOf store slot len v w .world) i
+  -- request 7: "older openings have all S words. A window not inside the S words gets 13, in soundness 11": of an open session exactly the windows
+  -- inside them are sound
+  pub older-opening : (store : List ℕ) (w : World) (slot len : ℕ) → openOf store slot len w ≡ windowOpenOf store slot len (record { first = 0; len = w .bench .s }) w
+  pub window-refused :
+      (store : List ℕ) (w : World) (slot len : ℕ) (v : Window) → Sound store w → loadedAt w slot ≡ true → w .bench .s < v .first + v .len
+      → answerRuling (windowOpenOf store slot len v w .answer) ≡ refused 13 0
+  pub window-sound :
+      (store : List ℕ) (w : World) (i : ℕ) (v : Window) → Sound store w → sessionAt w i .used ≡ true
+      → (soundB (at-sessions (w .bench) (set (w .bench .sessions) i (at-window (sessionAt w i) v))) (w .mem) store ≡ true) ↔ (v .first + v .len ≤ w .bench .s)
+  -- "It is accepted exactly if S is a multiple of 4 and farm numbers never fall from one record to the next"; where they do, the record that the
+  -- maintainer is shown is the first that falls
+  pub archive-accepted :
+      (a : List ℕ) → (accepted a ≡ true) ↔ ((length a % 4 ≡ 0) × ((r : ℕ) → r + 1 < recordsIn a → farmAt a r ≤ farmAt a (r + 1)))
+  pub archive-falls : (a : List ℕ) → length a % 4 ≡ 0 → accepted a ≡ false → FirstFall a (firstFall a (recordsIn a - 1))
+  -- "Given a farm, the crate finds its records as one range": all of them and only they lie in it
+  pub all-and-only :
+      (a : List ℕ) (farm : ℕ) → accepted a ≡ true → (r : ℕ) → r < recordsIn a
+      → (farmAt a r ≡ farm) ↔ ((rangeOf a farm .first ≤ 4 * r) × (4 * r < rangeOf a farm .first + rangeOf a farm .len))
+  -- so its words are the farm's records, one after another
+  pub range-words : (a : List ℕ) (farm : ℕ) → accepted a ≡ true → recordsOf a farm ≡ ownRecords a farm (recordsIn a)
+  -- "empty at word 0 if there are none"; and it lies in the archive
+  pub range-empty :
+      (a : List ℕ) (farm : ℕ) → ((r : ℕ) → r < recordsIn a → farmAt a r ≡ farm → ⊥) → rangeOf a farm ≡ record { first = 0; len = 0 }
+  pub range-inside : (a : List ℕ) (farm : ℕ) → rangeOf a farm .first + rangeOf a farm .len ≤ length a
+  -- "and opens a session that sees only that range": an opening for a farm that is done is the opening on that range
+  pub farm-opened :
+      (store : List ℕ) (w : World) (slot len farm i : ℕ) → Sound store w → farmOpenOf store slot len farm w .answer ≡ Done i
+      → (accepted (sharedOf w) ≡ true) × Opened store slot len (rangeOf (sharedOf w) farm) w (farmOpenOf store slot len farm w .world) i
   -- an open session is closed
   pub closed :
       (store : List ℕ) (w : World) (i : ℕ) → Sound store w → openAt w i ≡ true
@@ -305,6 +363,22 @@ pub record Demands : Type 0 where
   pub sound-lowest :
       (s : List ℕ) (l : ℕ) (r : Registers) (k : Kind) (x : ℕ) → inRange s l r k ≡ true
       → (inRange s l (record { sp = r .sp; m = r .m; counter = r .counter; routine = r .routine; lowest = x }) k ≡ true) ↔ ((floor s ≤ x) × (x ≤ r .sp))
+  -- request 7, "Document 01's address rule reads with the window": on a sound bench, of an indexed read at 32,768 or above, word j of the window is word
+  -- first + j of the memory, for j below its number of words, and everything else is fault 6
+  pub window-read :
+      (store : List ℕ) (w : World) (i n next x : ℕ) → Sound store w → sessionAt w i .used ≡ true
+      → decode (codeAt store w i) (sessionAt w i .cpu .regs .counter) ≡ instruction (record { does = index n; taken = 1; given = 1; next = next })
+      → sessionAt w i .cpu .regs .sp < sessionAt w i .len → x ≡ getD (wordsOf w (sessionAt w i)) (sessionAt w i .cpu .regs .sp) 0 → 32768 ≤ x + n
+      → judge (codeAt store w i) (windowAt w i) (wordsOf w (sessionAt w i)) (regsOf (sessionAt w i .cpu .regs))
+      ≡ cond (leb 1 x && ltb (x + n) (32768 + sessionAt w i .window .len))
+      (goes (lowered (moved (regsOf (sessionAt w i .cpu .regs)) (sessionAt w i .cpu .regs .sp) next)) (sessionAt w i .cpu .regs .sp)
+      (getD (w .mem) (sessionAt w i .window .first + (x + n - 32768)) 0 ∷ []))
+      (fault 6)
+  -- and nothing else reads a shared word: a step that is no indexed read, or one below 32,768, is judged alike with any shared words
+  pub window-only :
+      (s shared shared′ w : List ℕ) (r : Registers)
+      → ((d : Instruction) (n : ℕ) → decode s (r .counter) ≡ instruction d → d .does ≡ index n → getD w (r .sp) 0 + n < 32768)
+      → judge s shared w r ≡ judge s shared′ w r
   -- a step, and a turn, keep what soundness says of a session
   pub step-keeps :
       (s shared : List ℕ) (l : ℕ) → Loaded s → (t : State) → length (t .words) ≡ l → inRange s l (t .registers) (t .kind) ≡ true
@@ -338,6 +412,8 @@ pub record Demands : Type 0 where
   -- nobody else." That is what `after` says: each turn begins with the world that the one before it left. Refused turns may be among them.
 
   pub turns-stay-sound : (store : List ℕ) (ts : List Turn) (w : World) → Sound store w → Sound store (after store ts w)
+  -- "read-only shared words"
+  pub shared-kept : (store : List ℕ) (ts : List Turn) (w : World) → Sound store w → sharedOf (after store ts w) ≡ sharedOf w
   pub in-turn : (store : List ℕ) (ts : List Turn) (w : World) → map (λ (a : By Answer). a .who) (answersOf store ts w) ≡ map (λ (t : Turn). t .who) ts
   -- "The end is the same as when each session takes its own turns alone, one session after another": session 0's, then session 1's, up to
   -- session n - 1 (16 sessions, or more numbers if some are asked for, which are refused); and so are the answers
@@ -352,13 +428,13 @@ pub record Demands : Type 0 where
       (store : List ℕ) (ts us : List Turn) (w : World) → Sound store w → ((i : ℕ) → mine i ts ≡ mine i us)
       → (i : ℕ) → mine i (answersOf store ts w) ≡ mine i (answersOf store us w)
   -- "each session's words, registers, kind and step counts are those of the documented machine run on its own region, its own code and the
-  -- read-only shared words"
+  -- read-only shared words"; request 7, "in demand 3 the shared words are the words of that window"
   pub on-its-own : (store : List ℕ) (ts : List Turn) (w : World) → Sound store w → (i : ℕ) → sessionAt w i .used ≡ true → OnItsOwn store ts w i
   -- "Demand 3 counts it among the registers": it is among those of `on-its-own`. So, of a session that was opened on a sound bench, after any turns of
   -- any sessions, it is the least SP that its own steps reached
   pub lowest-since :
-      (store : List ℕ) (w : World) (slot len i : ℕ) (ts : List Turn) → Sound store w → openOf store slot len w .answer ≡ Done i
-      → LowestSince store ts (openOf store slot len w .world) i
+      (store : List ℕ) (w : World) (slot len : ℕ) (v : Window) (i : ℕ) (ts : List Turn) → Sound store w → windowOpenOf store slot len v w .answer ≡ Done i
+      → LowestSince store ts (windowOpenOf store slot len v w .world) i
   pub not-open :
       (store : List ℕ) (ts : List Turn) (w : World) → Sound store w → (i : ℕ) → sessionAt w i .used ≡ false
       → mine i (answersOf store ts w) ≡ map (λ (k : ℕ). Refused 12 0) (mine i ts)
@@ -369,3 +445,16 @@ pub record Demands : Type 0 where
   pub two-ends :
       (store store′ : List ℕ) (ts us : List Turn) (w w′ : World) (i j : ℕ) → Sound store w → Sound store′ w′ → mine i ts ≡ mine j us
       → Alike store w i store′ w′ j → Alike store (after store ts w) i store′ (after store′ us w′) j
+  -- request 7, "Changing any other farm's records changes no answer of a session on that window, so long as the archive is accepted and the farm's range
+  -- begins at the same place with the same words": two sound benches with the same records of a farm, wherever these begin, and anything in all other
+  -- records, in S and in every other session; sessions on the farm's range that stand alike have the same answers to the same turns, and end alike
+  pub other-farms :
+      (farm : ℕ) (store store′ : List ℕ) (ts us : List Turn) (w w′ : World) (i j : ℕ) → Sound store w → Sound store′ w′ → mine i ts ≡ mine j us
+      → OfFarm farm store w i store′ w′ j → NoOtherFarm farm store store′ ts us w w′ i j
+  -- and so do sessions that were opened for the farm on both sides, with the same segment and L, if both openings were done: their numbers may differ
+  pub other-farms-opened :
+      (farm : ℕ) (store store′ : List ℕ) (ts us : List Turn) (w w′ : World) (slot slot′ len i j : ℕ) → Sound store w → Sound store′ w′
+      → codeOf store (slotAt (w .bench .slots) slot) ≡ codeOf store′ (slotAt (w′ .bench .slots) slot′)
+      → recordsOf (sharedOf w) farm ≡ recordsOf (sharedOf w′) farm
+      → farmOpenOf store slot len farm w .answer ≡ Done i → farmOpenOf store′ slot′ len farm w′ .answer ≡ Done j → mine i ts ≡ mine j us
+      → NoOtherFarm farm store store′ ts us (farmOpenOf store slot len farm w .world) (farmOpenOf store′ slot′ len farm w′ .world) i j

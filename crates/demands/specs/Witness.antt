@@ -1,7 +1,7 @@
 -- The promises are not empty: the entries lead from nothing to a sound bench with a ready, a finished and a faulted session, and each of them
 -- takes a turn; a segment with a routine that is not linked loads; a report that ends within an instruction faults where its bytes ran out; one with a
--- pool runs in either byte sex, and its lowest stack pointer is judged; and refusals 1, 4, 6 and 11 to 17 are each given to somebody. So no runner that
--- refuses everything, and no loader that takes everything, meets the contracts.
+-- pool runs in either byte sex, and its lowest stack pointer is judged; two farms' reports read their own records and no others; and refusals 1, 4, 6, 11 to
+-- 17 and 23 are each given to somebody. So no runner that refuses everything, and no loader that takes everything, meets the contracts.
 -- Proved as `witness` in proofs/Witness, by computing. Above: Demands. Below: bench's entries.
 use mathlib.Core.Path.{_≡_}
 use mathlib.Core.Bool.{Bool, true, false, cond}
@@ -10,11 +10,14 @@ use Prim.Native.Nat.{ℕ, zero, suc, _/_, _%_}
 use lib.ListN.{replicate, set, take, drop}
 use Rattle.machine.specs.declared.Cpu.{Cpu}
 use Rattle.machine.specs.declared.Kind.the-variants.{Ready, Finished, Faulted}
-use Rattle.sound.specs.Bench.{World, worldOf, sessionAt, wordsOf, at-cpu, at-sessions}
+use Rattle.sound.specs.declared.Window.{Window}
+use Rattle.sound.specs.Bench.{World, worldOf, sessionAt, wordsOf, at-cpu, at-window, at-sessions}
 use Rattle.sound.specs.Sound.{Sound}
 use Rattle.entry.specs.declared.Answer.the-variants.{Done, Refused}
 use Rattle.turning.specs.Turn.{turned}
-use Rattle.entry.specs.Entries.{newOf, loadedAt, loadOf, openOf, turnOf, closeOf}
+use Rattle.entry.specs.Entries.{newOf, loadedAt, loadOf, openOf, windowOpenOf, turnOf, closeOf}
+use Rattle.archive.specs.declared.Found.the-variants.{At, Refused as NotFound}
+use Rattle.archive.specs.Archive.{rangeAnswer, farmOpenOf}
 
 -- the document's small segment but for its last two bytes: SLDC 5 and SLDC 7, or others
 unfoldable pub segment : ℕ → ℕ → List ℕ
@@ -90,6 +93,29 @@ lowestAt x =
     let c : Cpu = record { kind = Ready; regs = record { sp = r .sp; m = r .m; counter = r .counter; routine = r .routine; lowest = x } } in
     worldOf (at-sessions (popped .bench) (set (popped .bench .sessions) 0 (at-cpu (sessionAt popped 0) c))) (popped .mem)
 
+-- a report that reads word 3 of its window and then word 7 (LDCI, SIND0, twice), on a bench whose archive has a record of each of two farms; opened for
+-- the one and for the other, for a farm between them that has none, and on all shared words, as before request 7
+unfoldable pub reads : List ℕ
+reads = take 30 (segment 0 0) ++ (0x81 ∷ 3 ∷ 0x80 ∷ 0x78 ∷ 0x81 ∷ 7 ∷ 0x80 ∷ 0x78 ∷ [])
+
+unfoldable pub archived : ℕ → ℕ → World
+archived a b = loadOf reads 0 0 38 (worldOf (newOf 72 8 .bench) (a ∷ 1 ∷ 1 ∷ 17 ∷ b ∷ 1 ∷ 1 ∷ 40 ∷ replicate 64 0)) .world
+
+unfoldable pub farmed : World
+farmed =
+    openOf reads 0 16 (farmOpenOf reads 0 16 4 (farmOpenOf reads 0 16 5 (farmOpenOf reads 0 16 3 (archived 3 5) .world) .world) .world) .world
+
+unfoldable pub read : World
+read = turnOf reads 3 9 (turnOf reads 2 9 (turnOf reads 1 9 (turnOf reads 0 9 farmed .world) .world) .world) .world
+
+abbrev pub windowOn : ℕ → ℕ → Window
+windowOn first len = record { first = first; len = len }
+
+-- the bench with another window in record 0
+unfoldable pub seeing : ℕ → ℕ → World
+seeing first len =
+    worldOf (at-sessions (farmed .bench) (set (farmed .bench .sessions) 0 (at-window (sessionAt farmed 0) (windowOn first len)))) (farmed .mem)
+
 -- the small segment, then one that returns at once (RPU 0)
 unfoldable pub store : List ℕ
 store = segment 5 7 ++ segment 150 0
@@ -150,6 +176,23 @@ pub record Witness : Type 0 where
   pub lowest-sound : (turnOf pools 0 1 (lowestAt 6) .answer ≡ Done 1) × (turnOf pools 0 1 (lowestAt 14) .answer ≡ Done 1)
   pub lowest-below : turnOf pools 0 1 (lowestAt 5) .answer ≡ Refused 11 0
   pub lowest-above : (turnOf pools 0 1 (lowestAt 15) .answer ≡ Refused 11 0) × (turnOf pools 0 1 (lowestAt 18446744073709551615) .answer ≡ Refused 11 0)
+  -- request 7: each farm's report reads its own concentration and faults with 6 one word past its record; a farm without records reads nothing; by
+  -- the older opening a report reads both farms' words
+  pub own-range : (rangeAnswer reads 3 farmed ≡ At (windowOn 0 4)) × (rangeAnswer reads 5 farmed ≡ At (windowOn 4 4)) × (rangeAnswer reads 4 farmed ≡ At (windowOn 0 0))
+  pub own-records : (drop 15 (wordsOf read (sessionAt read 0)) ≡ 17 ∷ []) × (drop 15 (wordsOf read (sessionAt read 1)) ≡ 40 ∷ [])
+  pub no-rival : (sessionAt read 0 .cpu .kind ≡ Faulted 6 37) × (sessionAt read 1 .cpu .kind ≡ Faulted 6 37)
+  pub no-records : sessionAt read 2 .cpu .kind ≡ Faulted 6 33
+  pub all-shared : drop 14 (wordsOf read (sessionAt read 3)) ≡ 40 ∷ 17 ∷ []
+  -- farm numbers that fall are 23, before a bad slot and after 11; equal ones are taken
+  pub falls : (rangeAnswer reads 3 (archived 5 3) ≡ NotFound 23 0) × (farmOpenOf reads 16 16 3 (archived 5 3) .answer ≡ Refused 23 0)
+  pub falls-unsound : farmOpenOf [] 16 16 3 (archived 5 3) .answer ≡ Refused 11 0
+  pub equal-farms : rangeAnswer reads 3 (archived 3 3) ≡ At (windowOn 0 8)
+  pub bad-slot : farmOpenOf reads 16 16 3 (archived 3 5) .answer ≡ Refused 12 0
+  -- an empty window at word S is inside the shared words, one past it is 13 and in a record 11
+  pub window-at-end : (windowOpenOf reads 0 16 (windowOn 8 0) (archived 3 5) .answer ≡ Done 0) × (turnOf reads 0 1 (seeing 8 0) .answer ≡ Done 1)
+  pub window-past : (windowOpenOf reads 0 16 (windowOn 9 0) (archived 3 5) .answer ≡ Refused 13 0) × (turnOf reads 0 1 (seeing 9 0) .answer ≡ Refused 11 0)
+  pub window-wraps :
+      (windowOpenOf reads 0 16 (windowOn 4 18446744073709551615) (archived 3 5) .answer ≡ Refused 13 0) × (turnOf reads 0 1 (seeing 18446744073709551615 1) .answer ≡ Refused 11 0)
   -- refusals; the entry that is refused with 6 is a zero of routine 1
   pub no-bench : newOf 56 57 .answer ≡ Refused 17 0
   pub not-sound : turnOf [] 0 1 ran .answer ≡ Refused 11 0

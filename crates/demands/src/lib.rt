@@ -1,6 +1,8 @@
 // Every entry point once more: each function calls one entry and states its contract again, so that a contract that is weakened below breaks the
 // build here. Nobody calls them. What is promised of the definitions that they name is the record in specs/Demands. Below: every layer.
+use archive::Found;
 use bench::Out;
+use bench::Window;
 use instruction::Instruction;
 use operand::Operand;
 use segment::Routine;
@@ -8,9 +10,9 @@ use segment::Segment;
 use segment::Verdict;
 use sound::Bench;
 ghost use mathlib.Core.Path.{_≡_};
-ghost use Prim.Native.Nat.{ℕ, _≤_, _<_};
+ghost use Prim.Native.Nat.{ℕ, _-_, _≤_, _<_};
 ghost use lib.ListN.{length, getD};
-ghost use Rattle.basis.specs.Checks.{isPassed};
+ghost use Rattle.basis.specs.Checks.{isPassed, ruling};
 ghost use Rattle.operand.specs.Bytes.{byteAt};
 ghost use Rattle.operand.specs.Operand.{fetched, fetchedOf, formAt};
 ghost use Rattle.segment.specs.Head.{headOf, routineOf};
@@ -24,7 +26,9 @@ ghost use Rattle.turning.specs.Turn.{turnRuling, outputOf};
 ghost use Rattle.sound.specs.Bench.{worldOf};
 ghost use Rattle.sound.specs.Sound.{soundB};
 ghost use Rattle.entry.specs.Answer.{resultOf};
-ghost use Rattle.entry.specs.Entries.{newOf, loadOf, openOf, turnOf, closeOf};
+ghost use Rattle.entry.specs.Entries.{newOf, loadOf, openOf, windowOpenOf, turnOf, closeOf};
+ghost use Rattle.archive_records.specs.Records.{recordsIn, firstFall};
+ghost use Rattle.archive.specs.Archive.{archiveChecks, rangeAnswer, farmOpenOf};
 
 // ---- any bytes: a segment
 
@@ -114,6 +118,19 @@ pub fn open_session(b: Bench, memory: &mut [u16], store: &[u8], slot: usize, len
     bench::open_session(b, memory, store, slot, len)
 }
 
+pub fn open_window(
+    b: Bench,
+    memory: &mut [u16],
+    store: &[u8],
+    slot: usize,
+    len: usize,
+    window: Window,
+) -> Out
+    ensures { λ r. ⌜ resultOf r (now (memory .exit)) ≡ windowOpenOf (now (store .entry)) slot len window (worldOf b (now (memory .entry))) ⌝ }
+{
+    bench::open_window(b, memory, store, slot, len, window)
+}
+
 pub fn turn(b: Bench, memory: &mut [u16], store: &[u8], i: usize, k: u64) -> Out
     ensures { λ r. ⌜ resultOf r (now (memory .exit)) ≡ turnOf (now (store .entry)) i k (worldOf b (now (memory .entry))) ⌝ }
 {
@@ -124,4 +141,38 @@ pub fn close(b: Bench, memory: &mut [u16], store: &[u8], i: usize) -> Out
     ensures { λ r. ⌜ resultOf r (now (memory .exit)) ≡ closeOf (now (store .entry)) i (worldOf b (now (memory .entry))) ⌝ }
 {
     bench::close(b, memory, store, i)
+}
+
+// ---- the archive of a bench
+
+pub fn accept(b: Bench, memory: &[u16], store: &[u8]) -> Verdict
+    ensures { λ r. ⌜ rulingOf r ≡ ruling (archiveChecks (now (store .entry)) (worldOf b (now (memory .entry)))) ⌝ }
+{
+    archive::accept(b, memory, store)
+}
+
+pub fn range(b: Bench, memory: &[u16], store: &[u8], farm: u16) -> Found
+    ensures { λ r. ⌜ r ≡ rangeAnswer (now (store .entry)) farm (worldOf b (now (memory .entry))) ⌝ }
+{
+    archive::range(b, memory, store, farm)
+}
+
+pub fn open_farm(
+    b: Bench,
+    memory: &mut [u16],
+    store: &[u8],
+    slot: usize,
+    len: usize,
+    farm: u16,
+) -> Out
+    ensures { λ r. ⌜ resultOf r (now (memory .exit)) ≡ farmOpenOf (now (store .entry)) slot len farm (worldOf b (now (memory .entry))) ⌝ }
+{
+    archive::open_farm(b, memory, store, slot, len, farm)
+}
+
+// The record that the maintainer is shown if farm numbers fall.
+pub fn falls_at(words: &[u16]) -> usize
+    ensures { λ r. ⌜ r ≡ firstFall (now (words .entry)) (recordsIn (now (words .entry)) - 1) ⌝ }
+{
+    archive::falls_at(words)
 }

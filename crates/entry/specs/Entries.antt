@@ -9,10 +9,11 @@ use Rattle.basis.specs.Bools.{every}
 use Rattle.basis.specs.Checks.{Check, check, Ruling, passed, refused, isPassed}
 use Rattle.basis.specs.Part.{splice}
 use Rattle.sound.specs.Below.{SessionState, Cpu, cpuOf, checks, floorOf, startOf, runOf, countOf}
-use Rattle.sound.specs.Bench.{noSlot, noSession, codeOf, slotAt, World, worldOf, sessionAt, sharedOf, codeAt, stateAt, fresh, at-cpu, at-sessions, at-slots}
+use Rattle.sound.specs.Bench.{noSlot, noSession, codeOf, slotAt, World, worldOf, sessionAt, codeAt, windowAt, stateAt, fresh, at-cpu, at-sessions, at-slots}
 pub use Rattle.sound.specs.Bench.{fresh}
-use Rattle.sound.specs.Sound.{all, limitsOk, soundB}
+use Rattle.sound.specs.Sound.{all, limitsOk, insideShared, soundB}
 use Rattle.sound.specs.declared.Slot.{Slot}
+use Rattle.sound.specs.declared.Window.{Window}
 use Rattle.sound.specs.declared.Session.{Session}
 use Rattle.sound.specs.declared.Bench.{Bench}
 use Rattle.entry.specs.declared.Out.{Out}
@@ -134,31 +135,43 @@ abbrev pub placeIn : Gap → ℕ
 placeIn (At a) = a
 placeIn Full = 0
 
--- "sets every word of the region to zero, and starts routine 1"
-abbrev pub opens : ℕ → ℕ → Cpu → ℕ → ℕ → World → Result
-opens slot len c i a w = done i (cleared i (fresh slot a len c) a len w)
+-- "sets every word of the region to zero, and starts routine 1"; request 7: "The runner's session record gains the window"
+abbrev pub opens : ℕ → ℕ → Window → Cpu → ℕ → ℕ → World → Result
+opens slot len v c i a w = done i (cleared i (fresh slot a len v c) a len w)
 
-abbrev pub openChecks : List ℕ → ℕ → ℕ → World → List Check
-openChecks store slot len w =
+-- 13 also, request 7: "A window not inside the S words gets 13"
+abbrev pub windowChecks : List ℕ → ℕ → ℕ → Window → World → List Check
+windowChecks store slot len v w =
     begins store w (loadedAt w slot)
-    ++ (check 13 0 (lenOk (codeOf store (slotAt (w .bench .slots) slot)) len)
+    ++ (check 13 0 (lenOk (codeOf store (slotAt (w .bench .slots) slot)) len && insideShared (w .bench .s) v)
     ∷ check 14 0 (leb (recordFor w) 15)
     ∷ check 15 0 (found (gapFor w len))
     ∷ [])
 
-unfoldable pub openOf : List ℕ → ℕ → ℕ → World → Result
-openOf store slot len w =
-    refusing (openChecks store slot len w) w
-    (opens slot len (startOf (codeOf store (slotAt (w .bench .slots) slot)) len) (recordFor w) (placeIn (gapFor w len)) w)
+-- an opening that names its window
+unfoldable pub windowOpenOf : List ℕ → ℕ → ℕ → Window → World → Result
+windowOpenOf store slot len v w =
+    refusing (windowChecks store slot len v w) w
+    (opens slot len v (startOf (codeOf store (slotAt (w .bench .slots) slot)) len) (recordFor w) (placeIn (gapFor w len)) w)
+
+-- request 7: "older openings have all S words"
+abbrev pub allShared : World → Window
+allShared w = record { first = 0; len = w .bench .s }
+
+abbrev pub openChecks : List ℕ → ℕ → ℕ → World → List Check
+openChecks store slot len w = windowChecks store slot len (allShared w) w
+
+abbrev pub openOf : List ℕ → ℕ → ℕ → World → Result
+openOf store slot len w = windowOpenOf store slot len (allShared w) w
 
 -- ---- a turn: 11, 12, 16
 
--- the documented machine, k steps on session i's own code, the shared words and its own region; and the steps done
+-- the documented machine, k steps on session i's own code, the shared words of its window and its own region; and the steps done
 abbrev pub ranOf : List ℕ → ℕ → ℕ → World → SessionState
-ranOf store i k w = runOf k (codeAt store w i) (sharedOf w) (stateAt w i)
+ranOf store i k w = runOf k (codeAt store w i) (windowAt w i) (stateAt w i)
 
 abbrev pub doneOf : List ℕ → ℕ → ℕ → World → ℕ
-doneOf store i k w = countOf k (codeAt store w i) (sharedOf w) (stateAt w i)
+doneOf store i k w = countOf k (codeAt store w i) (windowAt w i) (stateAt w i)
 
 -- session i in this state: its registers and kind in its record, its words in its region, and nothing else
 abbrev pub put : ℕ → SessionState → World → World

@@ -42,7 +42,9 @@ pub fn turn(b: Bench, memory: &mut [u16], store: &[u8], i: usize, k: u64) -> Out
     let cpu = se.cpu;
     let end = se.base + se.len;
     let steps = k as usize;
-    let ran = run(code, memory, b.s, se.base, end, cpu, steps);
+    let first = se.window.first;
+    let seen = se.window.len;
+    let ran = run(code, memory, first, seen, se.base, end, cpu, steps);
     let next = ran.cpu;
     let out = with_session(b, i, se.at(next));
     let answer = steps_done(ran.done);

@@ -12,7 +12,7 @@ use Rattle.basis.proofs.Bools.{cond-holds}
 use Rattle.basis.proofs.Part.{length-part}
 use Rattle.interleave.specs.Interleave.{Isolated}
 use Rattle.sound.specs.Below.{cpuOf, cpuOk, runOf, countOf}
-use Rattle.sound.specs.Bench.{codeOf, slotOf, World, sessionAt, sharedOf, wordsOf, codeAt, stateAt}
+use Rattle.sound.specs.Bench.{codeOf, slotOf, World, sessionAt, windowIn, wordsOf, codeAt, windowAt, stateAt}
 use Rattle.sound.specs.Sound.{Sound}
 use Rattle.sound.proofs.Below.{run-keeps, run-length}
 use Rattle.sound.proofs.Lists.{either-way}
@@ -29,17 +29,21 @@ use Rattle.isolation.proofs.Whole.{same-world}
 abbrev pub codeIn : List ℕ → Public → Private → List ℕ
 codeIn store c p = codeOf store (slotOf (c .slots) (p .rec))
 
+-- the shared words that it sees
+abbrev pub seenIn : Public → Private → List ℕ
+seenIn c p = windowIn (p .rec .window) (c .shared)
+
 -- a turn of k steps, of what is shared and the session's own alone
 unfoldable pub nextOf : List ℕ → Public → ℕ → Private → Private
 nextOf store c k p =
     cond (p .rec .used)
-    (cond (leb k 65535) (at-state p (runOf k (codeIn store c p) (c .shared) (ownState p))) p)
+    (cond (leb k 65535) (at-state p (runOf k (codeIn store c p) (seenIn c p) (ownState p))) p)
     p
 
 unfoldable pub saysOf : List ℕ → Public → ℕ → Private → Answer
 saysOf store c k p =
     cond (p .rec .used)
-    (cond (leb k 65535) (Done (countOf k (codeIn store c p) (c .shared) (ownState p))) (Refused 16 0))
+    (cond (leb k 65535) (Done (countOf k (codeIn store c p) (seenIn c p) (ownState p))) (Refused 16 0))
     (Refused 12 0)
 
 -- the world after a turn, and the turn's answer
@@ -50,7 +54,7 @@ abbrev pub answered : List ℕ → ℕ → ℕ → World → Answer
 answered store i k w = turnOf store i k w .answer
 
 module _ (store : List ℕ) (c : Public) (k : ℕ) (p : Private) where
-  pub next-runs : p .rec .used ≡ true → leb k 65535 ≡ true → nextOf store c k p ≡ at-state p (runOf k (codeIn store c p) (c .shared) (ownState p))
+  pub next-runs : p .rec .used ≡ true → leb k 65535 ≡ true → nextOf store c k p ≡ at-state p (runOf k (codeIn store c p) (seenIn c p) (ownState p))
   unfolding nextOf
   next-runs u h = rw (u, h)
 
@@ -62,7 +66,7 @@ module _ (store : List ℕ) (c : Public) (k : ℕ) (p : Private) where
   unfolding nextOf
   next-12 u = rw u
 
-  pub says-runs : p .rec .used ≡ true → leb k 65535 ≡ true → saysOf store c k p ≡ Done (countOf k (codeIn store c p) (c .shared) (ownState p))
+  pub says-runs : p .rec .used ≡ true → leb k 65535 ≡ true → saysOf store c k p ≡ Done (countOf k (codeIn store c p) (seenIn c p) (ownState p))
   unfolding saysOf
   says-runs u h = rw (u, h)
 
@@ -96,7 +100,7 @@ module _ (store : List ℕ) (i k : ℕ) (w : World) (g : Sound store w) where
   pub own-state-is : sessionAt w i .used ≡ true → ownState (privateOf i w) ≡ stateAt w i
   own-state-is u = rw u
 
-  pub ran-is : sessionAt w i .used ≡ true → runOf k (codeAt store w i) (sharedOf w) (ownState (privateOf i w)) ≡ ranOf store i k w
+  pub ran-is : sessionAt w i .used ≡ true → runOf k (codeAt store w i) (windowAt w i) (ownState (privateOf i w)) ≡ ranOf store i k w
   ran-is u = rw u
 
   own-long : sessionAt w i .used ≡ true → length (wordsOf w (sessionAt w i)) ≡ sessionAt w i .len
@@ -104,12 +108,12 @@ module _ (store : List ℕ) (i k : ℕ) (w : World) (g : Sound store w) where
       length-part (sessionAt w i .base) (sessionAt w i .base + sessionAt w i .len) (w .mem) (omega arith) (opened store w g i u .inside) ∙ omega arith
 
   ran-long : sessionAt w i .used ≡ true → length (ranOf store i k w .words) ≡ sessionAt w i .len
-  ran-long u = run-length k (codeAt store w i) (sharedOf w) (stateAt w i) ∙ own-long u
+  ran-long u = run-length k (codeAt store w i) (windowAt w i) (stateAt w i) ∙ own-long u
 
   ran-ok : sessionAt w i .used ≡ true → cpuOk (codeAt store w i) (sessionAt w i .len) (cpuOf (ranOf store i k w)) ≡ true
   ran-ok u =
       let f = opened store w g i u in
-      run-keeps k (codeAt store w i) (sharedOf w) (sessionAt w i .len) (stateAt w i) (f .checked) (f .most) (own-long u) (f .cpu-ok)
+      run-keeps k (codeAt store w i) (windowAt w i) (sessionAt w i .len) (stateAt w i) (f .checked) (f .most) (own-long u) (f .cpu-ok)
 
   -- a turn on its answer and its end: refused with nothing changed, or the machine's run
   turn-cases : (P : Result → Type 0) → (sessionAt w i .used ≡ false → P (refusedAt 12 0 w))

@@ -9,7 +9,7 @@ use lib.Dec.{leb}
 use Rattle.interleave.specs.Interleave.{By, mine, oneByOne, acts, answers, alone, aloneSays, Alike}
 use Rattle.interleave.proofs.Interleave.{interleaved, two-runs}
 use Rattle.sound.specs.Below.{SessionState, stateOf, cpuOf, runOf, countOf}
-use Rattle.sound.specs.Bench.{World, sessionAt, sharedOf, codeAt, stateAt, at-cpu, wordsOf}
+use Rattle.sound.specs.Bench.{World, sessionAt, codeAt, windowAt, stateAt, at-cpu, wordsOf}
 use Rattle.sound.specs.Sound.{Sound}
 use Rattle.sound.proofs.Lists.{either-way}
 use Rattle.sound.proofs.Below.{run-none, run-add, count-none, count-add}
@@ -18,7 +18,7 @@ use Rattle.entry.specs.declared.Answer.the-variants.{Done, Refused}
 use Rattle.entry.specs.Entries.{ranOf, turnOf}
 use Rattle.isolation.specs.Isolation.{Turn, after, answersOf, stepsOf, reported, reportsOf, OnItsOwn, Agree, Isolation}
 use Rattle.isolation.proofs.Parts.{Public, Private, publicOf, privateOf, ownState, at-state}
-use Rattle.isolation.proofs.Acts.{codeIn, next-runs, next-16, next-12, says-runs, says-16, says-12, own-state-is, ran-is, turns}
+use Rattle.isolation.proofs.Acts.{codeIn, seenIn, next-runs, next-16, next-12, says-runs, says-16, says-12, own-state-is, ran-is, turns}
 
 -- the turns of specs/Isolation are the requests of interleave
 after-acts : (store : List ℕ) (ts : List Turn) (w : World) → after store ts w ≡ acts (turns store) ts w
@@ -52,18 +52,18 @@ counts-are code shared (k ∷ ks) st =
 
 module _ (store : List ℕ) (c : Public) where
   abbrev machine : ℕ → Private → SessionState
-  machine k p = runOf k (codeIn store c p) (c .shared) (ownState p)
+  machine k p = runOf k (codeIn store c p) (seenIn c p) (ownState p)
 
   alone-runs : (ks : List ℕ) (p : Private) → p .rec .used ≡ true → alone (turns store) c ks p ≡ at-state p (machine (stepsOf ks) p)
-  alone-runs [] p u = sym (ap (at-state p) (run-none (codeIn store c p) (c .shared) (ownState p)))
+  alone-runs [] p u = sym (ap (at-state p) (run-none (codeIn store c p) (seenIn c p) (ownState p)))
   alone-runs (k ∷ ks) p u =
       either-way (leb k 65535)
       (λ h. rw (next-runs store c k p u h, h)
-      (alone-runs ks (at-state p (machine k p)) u ∙ ap (at-state p) (sym (run-add k (stepsOf ks) (codeIn store c p) (c .shared) (ownState p)))))
+      (alone-runs ks (at-state p (machine k p)) u ∙ ap (at-state p) (sym (run-add k (stepsOf ks) (codeIn store c p) (seenIn c p) (ownState p)))))
       (λ h. rw (next-16 store c k p u h, h, zero-add (stepsOf ks)) (alone-runs ks p u))
 
   alone-says : (ks : List ℕ) (p : Private) → p .rec .used ≡ true
-      → aloneSays (turns store) c ks p ≡ reportsOf (codeIn store c p) (c .shared) ks (ownState p)
+      → aloneSays (turns store) c ks p ≡ reportsOf (codeIn store c p) (seenIn c p) ks (ownState p)
   alone-says [] p u = refl
   alone-says (k ∷ ks) p u =
       either-way (leb k 65535)
@@ -81,12 +81,12 @@ module _ (store : List ℕ) (ts : List Turn) (w : World) (g : Sound store w) (i 
   own-rec : sessionAt (after store ts w) i ≡ at-cpu (sessionAt w i) (cpuOf (ranOf store i (stepsOf (mine i ts)) w))
   own-rec = ap (λ (p : Private). p .rec) own-end
 
-  own-says : mine i (answersOf store ts w) ≡ reportsOf (codeAt store w i) (sharedOf w) (mine i ts) (stateAt w i)
+  own-says : mine i (answersOf store ts w) ≡ reportsOf (codeAt store w i) (windowAt w i) (mine i ts) (stateAt w i)
   own-says =
       rw (answers-are store ts w)
       (interleaved (turns store) .own-answers ts w g i
       ∙ alone-says store (publicOf w) (mine i ts) (privateOf i w) u
-      ∙ ap (λ (st : SessionState). reportsOf (codeAt store w i) (sharedOf w) (mine i ts) st) (own-state-is store i 0 w g u))
+      ∙ ap (λ (st : SessionState). reportsOf (codeAt store w i) (windowAt w i) (mine i ts) st) (own-state-is store i 0 w g u))
 
   on-its-own : OnItsOwn store ts w i
   on-its-own =
@@ -94,7 +94,7 @@ module _ (store : List ℕ) (ts : List Turn) (w : World) (g : Sound store w) (i 
         words = rw (own-rec, u) at (ap (λ (p : Private). p .words) own-end);
         registers = own-rec;
         answers = own-says;
-        counts = ap reported own-says ∙ counts-are (codeAt store w i) (sharedOf w) (mine i ts) (stateAt w i);
+        counts = ap reported own-says ∙ counts-are (codeAt store w i) (windowAt w i) (mine i ts) (stateAt w i);
       }
 
 -- ---- (c): two sessions that see alike
@@ -105,14 +105,14 @@ record Seen (store store′ : List ℕ) (c : Public) (p : Private) (d : Public) 
   cpu : p .rec .cpu ≡ r .rec .cpu
   words : p .words ≡ r .words
   code : codeIn store c p ≡ codeIn store′ d r
-  shared : c .shared ≡ d .shared
+  window : seenIn c p ≡ seenIn d r
 
 module _ (store store′ : List ℕ) (c : Public) (p : Private) (d : Public) (r : Private) (k : ℕ) (s : Seen store store′ c p d r) where
-  same-run : runOf k (codeIn store c p) (c .shared) (ownState p) ≡ runOf k (codeIn store′ d r) (d .shared) (ownState r)
-  same-run j = runOf k (s .code j) (s .shared j) (stateOf (s .words j) (s .cpu j))
+  same-run : runOf k (codeIn store c p) (seenIn c p) (ownState p) ≡ runOf k (codeIn store′ d r) (seenIn d r) (ownState r)
+  same-run j = runOf k (s .code j) (s .window j) (stateOf (s .words j) (s .cpu j))
 
-  same-count : countOf k (codeIn store c p) (c .shared) (ownState p) ≡ countOf k (codeIn store′ d r) (d .shared) (ownState r)
-  same-count j = countOf k (s .code j) (s .shared j) (stateOf (s .words j) (s .cpu j))
+  same-count : countOf k (codeIn store c p) (seenIn c p) (ownState p) ≡ countOf k (codeIn store′ d r) (seenIn d r) (ownState r)
+  same-count j = countOf k (s .code j) (s .window j) (stateOf (s .words j) (s .cpu j))
 
 alike : (store store′ : List ℕ) → Alike (turns store) (turns store′)
 alike store store′ =
@@ -145,6 +145,7 @@ isolation =
     record {
       in-turn = in-turn;
       stays-sound = λ store ts w g. rw (after-acts store ts w) (interleaved (turns store) .good-kept ts w g);
+      shared-kept = λ store ts w g. rw (after-acts store ts w) (ap (λ (c : Public). c .shared) (interleaved (turns store) .public-kept ts w g));
       in-any-order =
           λ store ts us w g m.
           after-acts store ts w ∙ interleaved (turns store) .any-mix ts us w g m ∙ sym (after-acts store us w);

@@ -9,7 +9,7 @@ use Prim.Native.Nat.{ℕ, _+_}
 use lib.Dec.{leb}
 use Rattle.interleave.specs.Interleave.{By, mine, oneByOne, Below}
 use Rattle.sound.specs.Below.{SessionState, cpuOf, runOf, countOf}
-use Rattle.sound.specs.Bench.{World, sessionAt, sharedOf, wordsOf, codeAt, stateAt, at-cpu}
+use Rattle.sound.specs.Bench.{World, sessionAt, sharedOf, wordsOf, codeAt, windowAt, stateAt, at-cpu}
 use Rattle.sound.specs.Sound.{Sound}
 use Rattle.entry.specs.declared.Answer.{Answer}
 use Rattle.entry.specs.declared.Answer.the-variants.{Done, Refused}
@@ -50,26 +50,29 @@ reportsOf code shared (k ∷ ks) st =
     (Refused 16 0 ∷ reportsOf code shared ks st)
 
 -- (b) session i after the turns ts: what the documented machine makes of its own state, on its own region, its own code and the shared
--- words, in as many steps as its own turns come to
+-- words of its window, in as many steps as its own turns come to
 pub record OnItsOwn (store : List ℕ) (ts : List Turn) (w : World) (i : ℕ) : Type 0 where
   pub words : wordsOf (after store ts w) (sessionAt w i) ≡ ranOf store i (stepsOf (mine i ts)) w .words
   pub registers : sessionAt (after store ts w) i ≡ at-cpu (sessionAt w i) (cpuOf (ranOf store i (stepsOf (mine i ts)) w))
-  pub answers : mine i (answersOf store ts w) ≡ reportsOf (codeAt store w i) (sharedOf w) (mine i ts) (stateAt w i)
+  pub answers : mine i (answersOf store ts w) ≡ reportsOf (codeAt store w i) (windowAt w i) (mine i ts) (stateAt w i)
   pub counts : reported (mine i (answersOf store ts w)) ≡ doneOf store i (stepsOf (mine i ts)) w
 
--- (c) session i of one world and session j of another: both are open, and agree on registers, kind, region, code and shared words.
--- Record numbers, slots, places in memory, the memories' sizes and all that other sessions hold may differ.
+-- (c) session i of one world and session j of another: both are open, and agree on registers, kind, region, code and the words of their
+-- windows. Record numbers, slots, places in memory and of the windows, S, all other shared words, the memories' sizes and all that other
+-- sessions hold may differ.
 pub record Agree (store : List ℕ) (w : World) (i : ℕ) (store′ : List ℕ) (w′ : World) (j : ℕ) : Type 0 where
   pub open-here : sessionAt w i .used ≡ true
   pub open-there : sessionAt w′ j .used ≡ true
   pub cpu : sessionAt w i .cpu ≡ sessionAt w′ j .cpu
   pub words : wordsOf w (sessionAt w i) ≡ wordsOf w′ (sessionAt w′ j)
   pub code : codeAt store w i ≡ codeAt store′ w′ j
-  pub shared : sharedOf w ≡ sharedOf w′
+  pub window : windowAt w i ≡ windowAt w′ j
 
 pub record Isolation : Type 0 where
   -- the bench stays sound
   pub stays-sound : (store : List ℕ) (ts : List Turn) (w : World) → Sound store w → Sound store (after store ts w)
+  -- the shared words are read-only
+  pub shared-kept : (store : List ℕ) (ts : List Turn) (w : World) → Sound store w → sharedOf (after store ts w) ≡ sharedOf w
   -- each turn has one answer, in the order of the turns
   pub in-turn : (store : List ℕ) (ts : List Turn) (w : World) → map (λ (a : By Answer). a .who) (answersOf store ts w) ≡ map (λ (t : Turn). t .who) ts
   -- (a) two lists with the same turns of each session, in each session's order, end in the same bench and memory, and each session has

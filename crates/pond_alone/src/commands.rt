@@ -2,6 +2,7 @@
 // Above it: the words of the shell, and the console. Below it: a function for each command, and the words of the commands.
 use numbers::Number;
 use pond_parts::Part;
+use pond_rows::View;
 use pond_rows::row;
 use pond_run::Size;
 use pond_say::Outcome;
@@ -77,20 +78,35 @@ fn part(file: &[u8], which: &[u8], k: u64) -> Outcome {
     expected(forms::LIST)
 }
 
-// `run FILE [WORDS [STEPS]] [with ARCHIVE]`, where n words stand behind its verb. No tape has word 8: then there is no archive.
+// `run FILE [WORDS [STEPS]] [with ARCHIVE [for FARM]]`, where n words stand behind its verb. No tape has word 8: then there is no archive.
 fn run(tape: &[u8], n: u8) -> Outcome {
-    if with_archive(tape, n) {
-        return sized(tape, less(n, 3), row(tape, n as usize));
+    if with_at(tape, less(n, 3)) {
+        return run_for(tape, n);
     }
-    sized(tape, less(n, 1), row(tape, 8))
+    if with_at(tape, less(n, 1)) {
+        return sized(tape, less(n, 3), row(tape, n as usize), View::All);
+    }
+    sized(tape, less(n, 1), row(tape, 8), View::All)
 }
 
-// Whether the last word but one is `with`, behind FILE.
-fn with_archive(tape: &[u8], n: u8) -> bool {
-    if n < 3 {
+// Whether word k is `with`, behind FILE.
+fn with_at(tape: &[u8], k: u8) -> bool {
+    if k < 2 {
         return false;
     }
-    same(row(tape, n as usize - 1), b"with")
+    same(row(tape, k as usize), b"with")
+}
+
+fn run_for(tape: &[u8], n: u8) -> Outcome {
+    if !forms::stands(tape, n, 1, b"for") {
+        return expected(forms::RUN);
+    }
+    let f = pond_words::farm(row(tape, n as usize), forms::RUN);
+    if f.ok {
+        let view = View::Farm((f.value % 65536) as u16);
+        return sized(tape, less(n, 5), row(tape, less(n, 2) as usize), view);
+    }
+    Outcome::Typing
 }
 
 fn less(n: u8, by: u8) -> u8 {
@@ -101,13 +117,13 @@ fn less(n: u8, by: u8) -> u8 {
 }
 
 // The same, where so many of WORDS and STEPS are given.
-fn sized(tape: &[u8], count: u8, archive: &[u8]) -> Outcome {
+fn sized(tape: &[u8], count: u8, archive: &[u8], view: View) -> Outcome {
     if 2 < count {
         return expected(forms::RUN);
     }
     let p = numbers_at(forms::RUN, tape, 2, count);
     if p.ok {
-        return pond_run::run(row(tape, 1), size(p), archive);
+        return pond_run::run(row(tape, 1), size(p), archive, view);
     }
     Outcome::Typing
 }

@@ -13,5 +13,7 @@ pub use pond_look::shared;
 pub use pond_look::words;
 pub use sessions::close;
 pub use sessions::open;
+pub use sessions::open_for;
+pub use sessions::open_window;
 pub use sessions::show;
 pub use turns::turn;

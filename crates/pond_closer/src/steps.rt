@@ -39,7 +39,8 @@ pub fn step(
     told::session(book, i);
     pond_say::text(b": ");
     ended(after);
-    let o = faults::reason(bench, memory, store, after);
+    let seen = pond_windows::seen_by(bench, book, after, i);
+    let o = faults::reason(bench, memory, store, after, seen);
     Next {
         bench,
         outcome: turns::stopped(o),

@@ -1,8 +1,8 @@
 // The bytes of examples/ that the built-in example needs, so that it needs no file.
 // Above it: the demo. Below it: nothing.
 
-// The four segments one after another: north.seg, south.seg, reads.seg and writes.seg.
-pub const STORE: [u8; 224] = [
+// The five segments one after another: north.seg, south.seg, beyond.seg, reads.seg and writes.seg.
+pub const STORE: [u8; 262] = [
     11,
     0,
     0,
@@ -29,12 +29,12 @@ pub const STORE: [u8; 224] = [
     0,
     14,
     0,
-    71,
+    72,
     0,
     5,
     0,
     129,
-    0,
+    3,
     128,
     165,
     4,
@@ -57,7 +57,8 @@ pub const STORE: [u8; 224] = [
     165,
     5,
     51,
-    237,
+    4,
+    162,
     165,
     4,
     50,
@@ -68,7 +69,7 @@ pub const STORE: [u8; 224] = [
     4,
     176,
     212,
-    225,
+    224,
     48,
     4,
     141,
@@ -76,7 +77,6 @@ pub const STORE: [u8; 224] = [
     3,
     150,
     0,
-    156,
     0,
     11,
     0,
@@ -104,11 +104,11 @@ pub const STORE: [u8; 224] = [
     0,
     14,
     0,
-    71,
+    72,
     0,
     5,
     129,
-    4,
+    3,
     128,
     165,
     4,
@@ -131,7 +131,8 @@ pub const STORE: [u8; 224] = [
     165,
     5,
     51,
-    237,
+    4,
+    162,
     165,
     4,
     50,
@@ -142,7 +143,7 @@ pub const STORE: [u8; 224] = [
     4,
     176,
     212,
-    225,
+    224,
     48,
     4,
     141,
@@ -150,7 +151,44 @@ pub const STORE: [u8; 224] = [
     3,
     150,
     0,
-    156,
+    11,
+    0,
+    0,
+    0,
+    66,
+    69,
+    89,
+    79,
+    78,
+    68,
+    32,
+    32,
+    1,
+    0,
+    0,
+    0,
+    2,
+    0,
+    0,
+    0,
+    0,
+    0,
+    1,
+    0,
+    14,
+    0,
+    36,
+    0,
+    1,
+    0,
+    129,
+    19,
+    128,
+    120,
+    165,
+    1,
+    150,
+    0,
     11,
     0,
     0,
@@ -182,7 +220,7 @@ pub const STORE: [u8; 224] = [
     5,
     0,
     129,
-    46,
+    70,
     0,
     120,
     165,
@@ -220,7 +258,7 @@ pub const STORE: [u8; 224] = [
     5,
     0,
     129,
-    46,
+    70,
     0,
     0,
     196,
@@ -229,5 +267,13 @@ pub const STORE: [u8; 224] = [
     156,
 ];
 
-// archive.words: four readings of North's, four of South's.
-pub const ARCHIVE: [u8; 16] = [12, 0, 15, 0, 11, 0, 18, 0, 31, 0, 29, 0, 40, 0, 35, 0];
+// farms.csv: four records of North's, which is farm 12, and four of South's, which is farm 17.
+pub const FARMS: [u8; 108] = *b"farm,pond,day,concentration\n\
+    12,1,1,12\n\
+    12,1,2,15\n\
+    12,2,1,11\n\
+    12,2,2,18\n\
+    17,1,1,31\n\
+    17,1,2,29\n\
+    17,2,1,40\n\
+    17,2,2,35\n";

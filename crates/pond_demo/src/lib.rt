@@ -1,17 +1,17 @@
-// `demo`: two farms on one bench with a shared archive, and the accident of last spring tried again. It needs no file, and what it prints is what the same
-// commands print on the files of examples/.
+// `demo`: two farms on one bench with an archive of records, a report that takes one record too many, and the accident of last spring tried again. It needs no
+// file, and what it prints is what the same commands print on the files of examples/.
 // Above it: the console. Below it: the other commands, as they are: a line is shown, and then done.
 mod bytes;
 mod lines;
 
 use pond_look::Wanted;
 use pond_phrases::piece;
-use pond_slots::fills;
 use pond_slots::loads;
 use sound::Bench;
+use text::front;
 
 pub fn demo() {
-    let mut memory = [0u16; 200];
+    let mut memory = [0u16; 250];
     let mut book = pond_rows::book();
     let store = bytes::STORE;
     let out = bench::new_bench(0, 0);
@@ -21,7 +21,7 @@ pub fn demo() {
 fn shown(b: Bench, memory: &mut [u16], book: &mut [u8], store: &[u8]) {
     let mut bench = b;
     let mut k: u8 = 0;
-    while k < 20 {
+    while k < 26 {
         lines::say(k);
         bench = done(bench, memory, book, store, k);
         k += 1;
@@ -30,26 +30,39 @@ fn shown(b: Bench, memory: &mut [u16], book: &mut [u8], store: &[u8]) {
 
 // What line k asks.
 fn done(b: Bench, memory: &mut [u16], book: &mut [u8], store: &[u8], k: u8) -> Bench {
-    let i = whose(k);
     match k {
         0 => made(b, memory, book),
-        2 | 3 | 12 | 15 => loaded(b, memory, store, book, i),
-        4 | 5 | 13 | 16 => opened(b, memory, store, book, i),
-        6 | 7 | 8 | 9 | 14 | 17 => ran(b, memory, store, book, i, steps(k)),
+        2 | 3 | 12 | 18 | 21 => loaded(b, memory, store, book, slot_of(k)),
+        13 => open_all(b, memory, store, book, k),
+        4 | 5 | 16 | 19 | 22 => open_for(b, memory, store, book, k),
+        6..=9 | 14 | 17 | 20 | 23 => ran(b, memory, store, book, k),
         _ => {
-            seen(b, memory, book, k);
+            seen(b, memory, store, book, k);
             b
         }
     }
 }
 
-// The slot that line k speaks of, or the session, which has the same number.
+// The session that line k speaks of.
 fn whose(k: u8) -> u8 {
     match k {
-        2 | 4 | 6 | 8 | 10 => 0,
-        12..=14 => 2,
-        15..=17 => 3,
+        4 | 6 | 8 | 10 => 0,
+        13..=15 => 2,
+        16 | 17 => 3,
+        19 | 20 => 4,
+        22 | 23 => 5,
         _ => 1,
+    }
+}
+
+// The slot that line k loads, or on which it opens a session.
+fn slot_of(k: u8) -> u8 {
+    match k {
+        2 | 4 => 0,
+        3 | 5 => 1,
+        12 | 13 | 16 => 2,
+        18 | 19 => 3,
+        _ => 4,
     }
 }
 
@@ -62,12 +75,15 @@ fn steps(k: u8) -> u64 {
     }
 }
 
-fn seen(b: Bench, memory: &mut [u16], book: &[u8], k: u8) {
+fn seen(b: Bench, memory: &[u16], store: &[u8], book: &[u8], k: u8) {
     match k {
         1 => {
-            archive(b, memory);
+            pond_archive::archive(b, memory, store);
         }
-        19 => {
+        15 => {
+            pond_look::words(b, memory, book, 2, Wanted::Part(6, 1));
+        }
+        25 => {
             pond_look::map(b, book);
         }
         _ => {
@@ -76,20 +92,23 @@ fn seen(b: Bench, memory: &mut [u16], book: &[u8], k: u8) {
     }
 }
 
+// The bench, and its archive from the text of farms.csv.
 fn made(b: Bench, memory: &mut [u16], book: &mut [u8]) -> Bench {
-    let next = pond_slots::new_bench(b, memory, book, 200, 8);
+    let mut room = [0u8; 64];
+    let text = bytes::FARMS;
+    let s = pond_sheet::read(b"farms.csv", &text, &mut room);
+    let n = pond_archive::eight(s.count);
+    let next = pond_archive::made(b, memory, book, 250, b"farms.csv", front(&room, n));
     next.bench
 }
 
-fn archive(b: Bench, memory: &mut [u16]) {
-    let words = bytes::ARCHIVE;
-    fills::from_bytes(b, memory, b"archive.words", &words);
-}
-
-// The segments of North and South have 74 bytes each, those of the accident 38.
+// The segments of North and South have 74 bytes each, the others 38.
 fn loaded(b: Bench, memory: &[u16], store: &[u8], book: &mut [u8], i: u8) -> Bench {
-    let name = piece(b"north|south|reads|writes", i as usize);
-    let file = piece(b"north.seg|south.seg|reads.seg|writes.seg", i as usize);
+    let name = piece(b"north|south|beyond|reads|writes", i as usize);
+    let file = piece(
+        b"north.seg|south.seg|beyond.seg|reads.seg|writes.seg",
+        i as usize,
+    );
     let next = loads::asked(
         b,
         memory,
@@ -109,7 +128,8 @@ fn start(i: u8) -> usize {
         0 => 0,
         1 => 74,
         2 => 148,
-        _ => 186,
+        3 => 186,
+        _ => 224,
     }
 }
 
@@ -120,13 +140,28 @@ fn len(i: u8) -> usize {
     38
 }
 
-fn opened(b: Bench, memory: &mut [u16], store: &[u8], book: &mut [u8], i: u8) -> Bench {
-    let name = piece(b"north|south|stale|zero", i as usize);
-    let next = pond_bench::open(b, memory, store, book, i as u64, 32, name);
+// On line 13, where the report sees all shared words.
+fn open_all(b: Bench, memory: &mut [u16], store: &[u8], book: &mut [u8], k: u8) -> Bench {
+    let next = pond_bench::open(b, memory, store, book, slot_of(k) as u64, 32, b"before");
     next.bench
 }
 
-fn ran(b: Bench, memory: &mut [u16], store: &[u8], book: &[u8], i: u8, steps: u64) -> Bench {
-    let next = pond_bench::turn(b, memory, store, book, i as u64, steps);
+fn open_for(b: Bench, memory: &mut [u16], store: &[u8], book: &mut [u8], k: u8) -> Bench {
+    let name = piece(b"north|south|before|after|stale|zero", whose(k) as usize);
+    let slot = slot_of(k) as u64;
+    let next = pond_bench::open_for(b, memory, store, book, slot, 32, name, farm(k));
+    next.bench
+}
+
+// North, but for South's own session.
+fn farm(k: u8) -> u16 {
+    if k == 5 {
+        return 17;
+    }
+    12
+}
+
+fn ran(b: Bench, memory: &mut [u16], store: &[u8], book: &[u8], k: u8) -> Bench {
+    let next = pond_bench::turn(b, memory, store, book, whose(k) as u64, steps(k));
     next.bench
 }

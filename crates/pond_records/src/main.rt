@@ -4,9 +4,12 @@
 use machine::Cpu;
 use machine::Kind;
 use plan::Regs;
+use pond_rows::View;
 use pond_why::faults;
+use pond_windows::Seen;
 use sound::Bench;
 use sound::Session;
+use sound::Window;
 
 // The small segment of document 01, but for its code: 87 80 at byte 30, which is LDL and the first byte of a B of two bytes, at the segment's end.
 const STORE: [u8; 32] = [
@@ -78,7 +81,16 @@ fn older(b: Bench, memory: &[u16]) {
 fn told(b: Bench, memory: &[u16], store: &[u8], number: u8, place: usize) {
     let se = recorded(number, place);
     faults::instruction(b, store, se);
-    faults::reason(b, memory, store, se);
+    faults::reason(b, memory, store, se, all_shared());
+}
+
+// The session sees all four shared words.
+fn all_shared() -> Seen {
+    Seen {
+        view: View::All,
+        first: 0,
+        len: 4,
+    }
 }
 
 fn recorded(number: u8, place: usize) -> Session {
@@ -90,5 +102,6 @@ fn recorded(number: u8, place: usize) -> Session {
         routine: 1,
         lowest: 16,
     };
-    Session::fresh(0, 4, 16, Cpu { kind, regs })
+    let window = Window { first: 0, len: 4 };
+    Session::fresh(0, 4, 16, window, Cpu { kind, regs })
 }

@@ -4,4 +4,5 @@ mod faults;
 mod refusals;
 
 pub use faults::fault;
+pub use refusals::begun;
 pub use refusals::refused;

@@ -8,6 +8,13 @@ use text::line;
 
 // The last line of a command that was refused: `refused N at P: rule`.
 pub fn refused(number: u8, place: u16) -> Outcome {
+    begun(number, place);
+    pond_say::end();
+    Outcome::Refused
+}
+
+// The same without its end, for a command that says more of it.
+pub fn begun(number: u8, place: u16) {
     pond_say::text(b"refused ");
     pond_say::number(number as u64);
     pond_say::text(b" at ");
@@ -17,8 +24,6 @@ pub fn refused(number: u8, place: u16) -> Outcome {
     pond_say::number(place as u64);
     pond_say::text(b": ");
     rule(number);
-    pond_say::end();
-    Outcome::Refused
 }
 
 // The place of 6 to 8 is the routine's number.
@@ -31,11 +36,18 @@ fn of_routine(number: u8) -> bool
     number <= 8
 }
 
-// The sentence of a number is that line of the page, from line 0 up; line 0 is for every number that has none.
+// Which line of the page has the sentence, from line 0 up; line 0 is for every number that has none.
+fn page_line(number: u8) -> u8 {
+    match number {
+        1..=17 => number,
+        23 => 18,
+        _ => 0,
+    }
+}
+
 fn rule(number: u8) {
-    let k = if number <= 17 { number } else { 0 };
     pond_say::text(line(
-        b"a number that document 01 does not have\n\
+        b"a number that the documents do not have\n\
           a segment has an even number of bytes, and 16 to 32767 words\n\
           bytes 12 and 13 say the byte sex: 01 00 is least byte first, 00 01 most byte first\n\
           the relocation pointer, word 1, must be 0\n\
@@ -48,11 +60,12 @@ fn rule(number: u8) {
           the output must have room for the whole segment\n\
           the bench must be sound for the memory and the store that it is lent\n\
           slots and sessions have numbers 0 to 15; the slot must be loaded (for loading: not loaded), the session open\n\
-          a session has 16 to 32768 words, and at least 6 more than the globals that DATASIZE of routine 1 asks\n\
+          a session has 16 to 32768 words, and at least 6 more than the globals that DATASIZE of routine 1 asks; a window must lie inside the shared words\n\
           all 16 session records are in use\n\
           the memory has no gap of that many free words\n\
           a turn has at most 65535 steps\n\
-          a segment must begin at an even byte and lie inside the store; a bench has at most 1048576 words, at most 32768 of them shared",
-        k,
+          a segment must begin at an even byte and lie inside the store; a bench has at most 1048576 words, at most 32768 of them shared, and no more than there are\n\
+          the shared words must be records of four words each, and farm numbers may never fall from one record to the next",
+        page_line(number),
     ));
 }

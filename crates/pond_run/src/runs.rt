@@ -1,8 +1,11 @@
-// `run FILE [WORDS [STEPS]] [with ARCHIVE]`: a segment on a bench of its own, to its end; how it ended, and its words.
+// `run FILE [WORDS [STEPS]] [with ARCHIVE [for FARM]]`: a segment on a bench of its own, to its end; how it ended, and its words.
 // Above it: the console. Below it: the other commands, as they are.
 use pond_bench::turns;
+use pond_files::Whole;
+use pond_look::Next;
 use pond_look::Wanted;
 use pond_look::told;
+use pond_rows::View;
 use pond_say::Outcome;
 use pond_slots::fills;
 use pond_slots::loads;
@@ -26,14 +29,14 @@ pub enum Size {
     Both(u64, u64),
 }
 
-// An archive is a file of shared words; where its name has no bytes, there are none.
-pub fn run(file: &[u8], size: Size, archive: &[u8]) -> Outcome {
+// An archive is a file of shared words, two bytes a word, and for a farm a text file of records; where its name has no bytes, there are none.
+pub fn run(file: &[u8], size: Size, archive: &[u8], view: View) -> Outcome {
     let mut store = io::large_buffer();
     let got = pond_files::read(file, &mut store);
     if !got.ok {
         return Outcome::File;
     }
-    with(file, front(&store, got.count), size, archive)
+    with(file, front(&store, got.count), size, archive, view)
 }
 
 // One byte more than the most shared words take, so that a longer file is told from it.
@@ -41,23 +44,35 @@ fn space() -> [u8; 65538] {
     [0u8; 65538]
 }
 
-fn with(file: &[u8], seg: &[u8], size: Size, archive: &[u8]) -> Outcome {
-    let mut room = space();
+fn with(file: &[u8], seg: &[u8], size: Size, archive: &[u8], view: View) -> Outcome {
     if archive.len() == 0 {
-        return sized(file, seg, size, archive, b"");
+        return sized(file, seg, size, archive, b"", view);
     }
-    let got = pond_files::read(archive, &mut room);
+    let mut room = space();
+    let got = bytes_of(archive, &mut room, view);
     if !got.ok {
         return Outcome::File;
     }
-    sized(file, seg, size, archive, front(&room, got.count))
+    sized(file, seg, size, archive, front(&room, got.count), view)
 }
 
-fn sized(file: &[u8], seg: &[u8], size: Size, archive: &[u8], bytes: &[u8]) -> Outcome {
+// The bytes of the archive's words: those of the file, or those of its records.
+fn bytes_of(archive: &[u8], room: &mut [u8], view: View) -> Whole {
+    if let View::Farm(_) = view {
+        let s = pond_archive::read(archive, room);
+        return Whole {
+            ok: s.ok,
+            count: pond_archive::eight(s.count),
+        };
+    }
+    pond_files::read(archive, room)
+}
+
+fn sized(file: &[u8], seg: &[u8], size: Size, archive: &[u8], bytes: &[u8], view: View) -> Outcome {
     match size {
-        Size::Usual => alone(file, seg, usual(seg), STEPS, archive, bytes),
-        Size::Words(words) => alone(file, seg, words as usize, STEPS, archive, bytes),
-        Size::Both(words, steps) => alone(file, seg, words as usize, steps, archive, bytes),
+        Size::Usual => alone(file, seg, usual(seg), STEPS, archive, bytes, view),
+        Size::Words(words) => alone(file, seg, words as usize, STEPS, archive, bytes, view),
+        Size::Both(words, steps) => alone(file, seg, words as usize, steps, archive, bytes, view),
     }
 }
 
@@ -91,6 +106,7 @@ fn alone(
     steps: u64,
     archive: &[u8],
     bytes: &[u8],
+    view: View,
 ) -> Outcome {
     let mut memory = memory_of_most();
     let s = at_most(bytes.len() / 2);
@@ -106,6 +122,7 @@ fn alone(
             steps,
             archive,
             bytes,
+            view,
         );
     }
     Outcome::Done
@@ -120,15 +137,20 @@ fn filled(
     steps: u64,
     archive: &[u8],
     bytes: &[u8],
+    view: View,
 ) -> Outcome {
-    let o = poured(b, memory, archive, bytes);
+    let o = poured(b, memory, archive, bytes, view);
     if pond_say::went(o) {
-        return booked(b, memory, file, seg, words, steps);
+        return booked(b, memory, file, seg, words, steps, view);
     }
     o
 }
 
-fn poured(b: Bench, memory: &mut [u16], archive: &[u8], bytes: &[u8]) -> Outcome {
+fn poured(b: Bench, memory: &mut [u16], archive: &[u8], bytes: &[u8], view: View) -> Outcome {
+    if let View::Farm(_) = view {
+        fills::from_records(memory, archive, bytes);
+        return Outcome::Done;
+    }
     if archive.len() > 0 {
         return fills::from_bytes(b, memory, archive, bytes);
     }
@@ -142,9 +164,10 @@ fn booked(
     seg: &[u8],
     words: usize,
     steps: u64,
+    view: View,
 ) -> Outcome {
     let mut book = pond_rows::book();
-    loaded(b, memory, &mut book, file, seg, words, steps)
+    loaded(b, memory, &mut book, file, seg, words, steps, view)
 }
 
 fn loaded(
@@ -155,11 +178,12 @@ fn loaded(
     seg: &[u8],
     words: usize,
     steps: u64,
+    view: View,
 ) -> Outcome {
     let after = loads::asked(b, memory, seg, book, b"", file, 0, 0, seg.len());
     let o = after.outcome;
     if pond_say::went(o) {
-        return opened(after.bench, memory, book, seg, words, steps);
+        return opened(after.bench, memory, book, seg, words, steps, view);
     }
     o
 }
@@ -171,13 +195,28 @@ fn opened(
     seg: &[u8],
     words: usize,
     steps: u64,
+    view: View,
 ) -> Outcome {
-    let after = pond_bench::open(b, memory, seg, book, 0, words as u64, b"");
+    let after = asked(b, memory, book, seg, words as u64, view);
     let o = after.outcome;
     if pond_say::went(o) {
         return went(after.bench, memory, book, seg, steps);
     }
     o
+}
+
+fn asked(
+    b: Bench,
+    memory: &mut [u16],
+    book: &mut [u8],
+    seg: &[u8],
+    words: u64,
+    view: View,
+) -> Next {
+    if let View::Farm(farm) = view {
+        return pond_bench::open_for(b, memory, seg, book, 0, words, b"", farm);
+    }
+    pond_bench::open(b, memory, seg, book, 0, words, b"")
 }
 
 fn went(b: Bench, memory: &mut [u16], book: &[u8], seg: &[u8], steps: u64) -> Outcome {
@@ -192,7 +231,7 @@ fn ended(b: Bench, memory: &[u16], book: &[u8], seg: &[u8], steps: u64) -> Outco
     faults::instruction(b, seg, se);
     pond_look::deepest(b, seg, se);
     pond_look::words(b, memory, book, 0, Wanted::All);
-    let o = faults::reason(b, memory, seg, se);
+    let o = faults::reason(b, memory, seg, se, pond_windows::seen_by(b, book, se, 0));
     turns::stopped(finished(o, se))
 }
 

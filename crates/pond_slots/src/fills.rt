@@ -1,5 +1,5 @@
-// `fill FILE`: the shared words from a file, two bytes a word, least byte first.
-// Above it: the console. Below it: files.
+// `fill FILE`: the shared words from a file, two bytes a word, least byte first; and from bytes that were made of records.
+// Above it: the console, and the commands on the archive. Below it: files.
 use pond_look::told;
 use pond_phrases::begun;
 use pond_phrases::piece;
@@ -15,7 +15,10 @@ fn space() -> [u8; 65538] {
     [0u8; 65538]
 }
 
-pub fn fill(b: Bench, memory: &mut [u16], file: &[u8]) -> Outcome {
+pub fn fill(b: Bench, memory: &mut [u16], book: &[u8], file: &[u8]) -> Outcome {
+    if pond_windows::held(b, book) {
+        return Outcome::Typing;
+    }
     let mut room = space();
     let got = pond_files::read(file, &mut room);
     if !got.ok {
@@ -37,7 +40,17 @@ pub fn from_bytes(b: Bench, memory: &mut [u16], file: &[u8], bytes: &[u8]) -> Ou
     }
     pour_front(memory, n, bytes);
     filled(n, file);
+    pond_say::end();
     Outcome::Done
+}
+
+// The first words from records that were judged, eight bytes each.
+pub fn from_records(memory: &mut [u16], file: &[u8], bytes: &[u8]) {
+    let n = bytes.len() / 2;
+    pour_front(memory, n, bytes);
+    filled(n, file);
+    let k = (n / 4) as u64;
+    say(b": # record%\n", k, k, 0);
 }
 
 // Into the first n words.
@@ -73,7 +86,6 @@ fn filled(n: usize, file: &[u8]) {
         n,
     );
     pond_say::path(file);
-    pond_say::end();
 }
 
 fn cannot(file: &[u8]) {

@@ -13,6 +13,12 @@ pub fn welcome() {
 
 // Every command in one line, where no word is given; else what is said of that command. Answers whether anything is.
 pub fn help(command: &[u8]) -> bool {
+    let files = on_files(command);
+    let bench = on_bench(command);
+    bounds::either(files, bench)
+}
+
+fn on_files(command: &[u8]) -> bool {
     chosen(
         b"check FILE                     the header numbers and routines of a segment, or why it is refused\n\
           list FILE                      the instructions of a segment\n\
@@ -24,19 +30,35 @@ pub fn help(command: &[u8]) -> bool {
           \x20 run FILE [WORDS [STEPS]] with ARCHIVE: \
           the shared words are those of the file ARCHIVE. WORDS is 1000 if not given, or 250 more than the segment needs;\n\
           \x20 STEPS is 1000000000. A report that is not finished then is a failure.\n\
-          demo                           two farms on one bench, and the spring accident tried again\n\
-          bench N S                      a new bench of N words, the first S of them shared\n\
+          \x20 run FILE [WORDS [STEPS]] with ARCHIVE for FARM: ARCHIVE is a text file of records, and the report sees those of that farm.\n\
+          demo                           two farms on one bench, and the spring accident tried again\n",
+        command,
+    )
+}
+
+fn on_bench(command: &[u8]) -> bool {
+    chosen(
+        b"bench N S                      a new bench of N words, the first S of them shared\n\
           \x20 All slots, sessions and names before it are gone.\n\
+          \x20 bench N records FILE: as many are shared as the records of a text file take, and they are filled from it.\n\
           fill FILE                      fills shared words, two bytes a word, least byte first\n\
+          \x20 Not while a session is open: another farm's records could come to lie in what it sees.\n\
+          records FILE                   fills shared words from a text: a record a line, farm, pond, day, concentration\n\
+          \x20 Blanks, tabs, commas or semicolons between the numbers; blank lines, lines that begin with # and one heading are passed over.\n\
+          \x20 The lines are in the order of their farm numbers, and the file has just as many records as there is room for: see help bench.\n\
+          \x20 Not while a session is open.\n\
+          archive [FARM]                 the shared words as an archive: accepted, with its farms, or why not; or one farm's records\n\
           load SLOT FILE                 loads a segment into a slot: 0 to 15, or a name of yours\n\
           \x20 load north north.seg takes the lowest slot that is free and calls it north. A name has at most 24 bytes and is no number.\n\
           slots                          what is loaded, and from which files\n\
           open [NAME] SLOT WORDS         opens a session of so many words on a loaded slot\n\
-          \x20 open north weekly 32 calls it north, and every command takes the name for its number.\n\
+          \x20 open north weekly 32 calls it north, and every command takes the name for its number. It sees all shared words.\n\
+          \x20 open north weekly 32 for 12: it sees the records of farm 12 and no others, from address 32768 on.\n\
+          \x20 open north weekly 32 window 16 48: it sees the 48 shared words from word 16 on.\n\
           turn SESSION STEPS             runs a session for so many steps, or until it finishes or faults\n\
           \x20 Ctrl-C ends it after the steps done so far.\n\
           step SESSION [N]               does one step, or N, and shows each instruction, with the stack before and behind it\n\
-          show SESSION                   its kind, region and registers, how deep its stack went, its next instruction and calls, and why it faulted\n\
+          show SESSION                   its kind, region, window and registers, how deep its stack went, its next instruction and calls, and why it faulted\n\
           \x20 How deep: the lowest stack pointer, the words that the stack never reached, and the least region that would have been enough so far.\n\
           \x20 After fault 4, a full stack, nothing of it is told: open the session with more words and run it again.\n\
           words SESSION [FROM [COUNT]]   its words, by its own addresses\n\

@@ -5,6 +5,7 @@ use machine::Kind;
 use plan::Regs;
 use pond_look::told;
 use pond_say::Outcome;
+use pond_windows::Seen;
 use sound::Bench;
 use sound::Session;
 
@@ -18,21 +19,21 @@ pub fn instruction(b: Bench, store: &[u8], se: Session) {
     }
 }
 
-// The last line: `fault 6 at byte 58: ` and why.
-pub fn reason(b: Bench, memory: &[u16], store: &[u8], se: Session) -> Outcome {
+// The last line: `fault 6 at byte 58: ` and why. What it says of the shared words is said of what the session sees of them.
+pub fn reason(b: Bench, memory: &[u16], store: &[u8], se: Session, seen: Seen) -> Outcome {
     let cpu = se.cpu;
     let kind = cpu.kind;
     if let Kind::Faulted(number, place) = kind {
         let seg = told::code(b, store, se.slot);
         let region = told::region(memory, se.base, se.len);
-        line(seg, region, b.s, cpu.regs, number, place);
+        line(seg, region, seen, cpu.regs, number, place);
         return Outcome::Fault;
     }
     Outcome::Done
 }
 
-fn line(seg: &[u8], region: &[u16], shared: usize, regs: Regs, number: u8, place: usize) {
+fn line(seg: &[u8], region: &[u16], seen: Seen, regs: Regs, number: u8, place: usize) {
     pond_phrases::say(b"fault # at byte #: ", number as u64, place as u64, 0);
-    reasons::reason(seg, region, shared, regs, number, place);
+    reasons::reason(seg, region, seen, regs, number, place);
     pond_say::end();
 }

@@ -6,3 +6,4 @@ mod said;
 mod said_flow;
 mod said_places;
 mod said_stack;
+mod said_windows;

@@ -7,8 +7,9 @@ use cause::Code;
 use cause::Numbers;
 use cause::Why;
 use cause::less;
+use pond_rows::View;
 
-pub fn why(n: Numbers, w: Why) {
+pub fn why(n: Numbers, w: Why, view: View) {
     match w {
         Why::Holds => {}
         Why::Code(c) => {
@@ -21,7 +22,7 @@ pub fn why(n: Numbers, w: Why) {
             said_places::place(n, p);
         }
         Why::Address(a) => {
-            said_places::address(n, a);
+            said_places::address(n, a, view);
         }
         Why::Flow(f) => {
             said_flow::flow(n, f);

@@ -1,11 +1,13 @@
 // Sentences of addresses and of words of the pool: fault 6.
-// Above it: `said`. Below it: how a sentence is said.
+// Above it: `said`. Below it: the sentences of windows, and how a sentence is said.
 use crate::said::end;
 use crate::said::sentence;
+use crate::said_windows;
 use cause::Address;
 use cause::Numbers;
 use cause::Place;
 use cause::less;
+use pond_rows::View;
 
 // The first address of a shared word.
 const SHARED: usize = 32768;
@@ -84,7 +86,13 @@ fn bound(ends: usize, words: usize) -> usize {
     less(words, 1)
 }
 
-pub fn address(n: Numbers, a: Address) {
+pub fn address(n: Numbers, a: Address, view: View) {
+    if !said_windows::address(n, a, view) {
+        of_address(n, a);
+    }
+}
+
+fn of_address(n: Numbers, a: Address) {
     let last = less(n.len as usize, 1);
     let told = match a {
         Address::Nil(i) => [0, i as usize, 0, 0, 0, 0],

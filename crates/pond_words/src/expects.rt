@@ -111,6 +111,20 @@ fn both(first: &[u8], second: &[u8], form: u8) -> Given {
     }
 }
 
+// The number of a farm.
+pub fn farm(word: &[u8], form: u8) -> One {
+    let f = number(word, form);
+    if bounds::both(f.ok, 65535 < f.value) {
+        around(
+            b"cannot follow that: ",
+            word,
+            b" is no farm: they have numbers 0 to 65535\n",
+        );
+        return none();
+    }
+    f
+}
+
 // The session of a number, open or not, or of a name.
 pub fn session(book: &[u8], word: &[u8]) -> One {
     let n = number_of(word);

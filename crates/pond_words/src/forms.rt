@@ -7,15 +7,17 @@ use text::piece;
 use text::same;
 use text::word;
 
-const FORMS: [u8; 462] =
-    *b"map;slots;fill FILE;show SESSION;close SESSION;bench N S;load SLOT FILE;\
-    turn SESSION STEPS;save SESSION FILE;step SESSION [N];open [NAME] SLOT WORDS;words SESSION [FROM [COUNT]];shared [FROM [COUNT]];\
-    check FILE;list FILE, list FILE routine K or list FILE near BYTE;run FILE [WORDS [STEPS]] [with ARCHIVE];demo;\
+const FORMS: [u8; 603] =
+    *b"map;slots;fill FILE;show SESSION;close SESSION;bench N S or bench N records FILE;load SLOT FILE;\
+    turn SESSION STEPS;save SESSION FILE;step SESSION [N];\
+    open [NAME] SLOT WORDS, open [NAME] SLOT WORDS for FARM or open [NAME] SLOT WORDS window FIRST COUNT;\
+    words SESSION [FROM [COUNT]];shared [FROM [COUNT]];archive [FARM];records FILE;\
+    check FILE;list FILE, list FILE routine K or list FILE near BYTE;run FILE [WORDS [STEPS]] [with ARCHIVE [for FARM]];demo;\
     help [COMMAND];--version;keep going or keep going always;quit or exit, and nothing more;exit;--help;-h;\
     turn FILE OUT;turn SESSION STEPS or turn FILE OUT";
 
 // How many forms the table has, and the number of what is no command.
-const ALL: u8 = 26;
+const ALL: u8 = 28;
 
 // The commands on a bench are the first.
 pub const MAP: u8 = 0;
@@ -44,31 +46,35 @@ pub const WORDS: u8 = 11;
 
 pub const SHARED: u8 = 12;
 
-pub const CHECK: u8 = 13;
+pub const ARCHIVE: u8 = 13;
 
-pub const LIST: u8 = 14;
+pub const RECORDS: u8 = 14;
 
-pub const RUN: u8 = 15;
+pub const CHECK: u8 = 15;
 
-pub const DEMO: u8 = 16;
+pub const LIST: u8 = 16;
 
-pub const HELP: u8 = 17;
+pub const RUN: u8 = 17;
 
-pub const VERSION: u8 = 18;
+pub const DEMO: u8 = 18;
 
-pub const KEEP: u8 = 19;
+pub const HELP: u8 = 19;
 
-pub const QUIT: u8 = 20;
+pub const VERSION: u8 = 20;
 
-const EXIT: u8 = 21;
+pub const KEEP: u8 = 21;
 
-const LONG_HELP: u8 = 22;
+pub const QUIT: u8 = 22;
 
-const SHORT_HELP: u8 = 23;
+const EXIT: u8 = 23;
 
-pub const TURN_FILE: u8 = 24;
+const LONG_HELP: u8 = 24;
 
-pub const EITHER_TURN: u8 = 25;
+const SHORT_HELP: u8 = 25;
+
+pub const TURN_FILE: u8 = 26;
+
+pub const EITHER_TURN: u8 = 27;
 
 // The command on the tape.
 pub fn named(tape: &[u8]) -> u8 {
@@ -112,23 +118,32 @@ pub fn is_number(word: &[u8]) -> bool {
 
 // Whether a command is one on a bench.
 pub fn on_bench(form: u8) -> bool {
-    form <= SHARED
+    form <= RECORDS
 }
 
 // Whether n words can stand behind the verb.
 pub fn fits(form: u8, n: u8) -> bool {
     match form {
         MAP | SLOTS | DEMO | VERSION | QUIT => n == 0,
-        FILL | SHOW | CLOSE | CHECK => n == 1,
-        BENCH | LOAD | TURN | SAVE | TURN_FILE => n == 2,
+        FILL | SHOW | CLOSE | CHECK | RECORDS => n == 1,
+        LOAD | TURN | SAVE | TURN_FILE => n == 2,
         STEP => among(1, 2, n),
-        OPEN => among(2, 3, n),
+        BENCH => among(2, 3, n),
+        OPEN => among(2, 6, n),
         WORDS => among(1, 3, n),
         SHARED => n <= 2,
-        HELP => n <= 1,
-        RUN => among(1, 5, n),
+        HELP | ARCHIVE => n <= 1,
+        RUN => among(1, 7, n),
         _ => true,
     }
+}
+
+// Whether a word stands so many words before the last of n, behind the verb.
+pub fn stands(tape: &[u8], n: u8, before: u8, wanted: &[u8]) -> bool {
+    if n <= before {
+        return false;
+    }
+    same(row(tape, (n - before) as usize), wanted)
 }
 
 fn among(least: u8, most: u8, n: u8) -> bool {

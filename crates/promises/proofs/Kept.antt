@@ -16,16 +16,17 @@ use Rattle.basis.specs.Checks.{passed, refused}
 use Rattle.basis.proofs.Checks.{never, is-passed, all-passed}
 use Rattle.sound.specs.Below.{judged, startOf}
 use Rattle.sound.specs.Bench.{codeOf, slotAt, slotOf, noSlot, noSession, World, worldOf, sessionAt, at-slots}
-use Rattle.sound.specs.Sound.{limitsOk, slotOk, placed, apart, sessionOk, soundB, Sound}
+use Rattle.sound.specs.Sound.{limitsOk, slotOk, insideShared, placed, apart, sessionOk, soundB, Sound}
 use Rattle.sound.specs.declared.Slot.{Slot}
 use Rattle.sound.specs.declared.Session.{Session}
+use Rattle.sound.specs.declared.Window.{Window}
 use Rattle.sound.proofs.Below.{start-ok}
 use Rattle.sound.proofs.Lists.{either-way, all-at, all-imp, all-put, apart-put}
 use Rattle.sound.proofs.Facts.{put-together, parts, long, opened, slot-good}
 use Rattle.entry.specs.declared.Gap.{Gap}
 use Rattle.entry.specs.declared.Gap.the-variants.{At, Full}
 use Rattle.entry.specs.Answer.{answerRuling}
-use Rattle.entry.specs.Entries.{loadedAt, newOf, loadedSlot, rangeOk, loadOf, lenOk, recordFor, clearOf, gapAt, gapOf, gapFor, found, placeIn, cleared, fresh, openOf, closeOf}
+use Rattle.entry.specs.Entries.{loadedAt, newOf, loadedSlot, rangeOk, loadOf, lenOk, recordFor, clearOf, gapAt, gapOf, gapFor, found, placeIn, cleared, fresh, windowOpenOf, closeOf}
 use Rattle.entry.proofs.Refusing.{by-checks}
 use Rattle.entry_open.proofs.Lowest.{lowest-passes}
 
@@ -64,12 +65,12 @@ module _ (store : List ℕ) (w : World) (g : Sound store w) where
       (λ p. replaced-good i noSession (sessionAt w i .base) (sessionAt w i .len)
       (opened store w g i (and-snd (leb i 15) (sessionAt w i .used) (p .1 .0)) .inside) refl refl (λ j o n. unused-apart (sessionAt w j)))
 
-  module _ (slot len : ℕ) (loaded : loadedAt w slot ≡ true) (lk : lenOk (codeOf store (slotAt (w .bench .slots) slot)) len ≡ true) where
+  module _ (slot len : ℕ) (v : Window) (loaded : loadedAt w slot ≡ true) (lk : lenOk (codeOf store (slotAt (w .bench .slots) slot)) len ≡ true) (seen : insideShared (w .bench .s) v ≡ true) where
     abbrev code : List ℕ
     code = codeOf store (slotAt (w .bench .slots) slot)
 
     abbrev opening : ℕ → Session
-    opening a = fresh slot a len (startOf code len)
+    opening a = fresh slot a len v (startOf code len)
 
     fresh-apart : (a : ℕ) (se : Session) → clearOf a len se ≡ true → (apart (opening a) se ≡ true) × (apart se (opening a) ≡ true)
     unfolding apart
@@ -94,14 +95,15 @@ module _ (store : List ℕ) (w : World) (g : Sound store w) where
     opens-by i (At a) e h =
         let x = every-holds _ (lowest-passes (gapAt (w .bench .sessions) (w .bench .s) (w .bench .n) len) (w .bench .n + 1) 0 a e) in
         let f : a + len ≤ length (w .mem) = rw (long store w g) (leb-true _ _ (x .1 .0)) in
-        replaced-good i (opening a) a len f (holds-every _ (x .0, (x .1 .0, tt))) (fresh-ok a)
+        replaced-good i (opening a) a len f (holds-every _ (x .0, (x .1 .0, (seen, tt)))) (fresh-ok a)
         (λ j q n. fresh-apart a (sessionAt w j) (all-at (clearOf a len) (w .bench .sessions) j noSession (x .1 .1 .0) q))
 
-  pub open-sound : (slot len : ℕ) → Sound store (openOf store slot len w .world)
-  unfolding openOf
-  open-sound slot len =
+  pub open-sound : (slot len : ℕ) (v : Window) → Sound store (windowOpenOf store slot len v w .world)
+  unfolding windowOpenOf
+  open-sound slot len v =
       by-checks (λ r. Sound store (r .world)) _ w _ (λ _ _. g)
-      (λ p. opens-by slot len (p .1 .0) (p .1 .1 .0) (recordFor w) (gapFor w len) refl (p .1 .1 .1 .1 .0))
+      (λ p. let sizes = both-true _ _ (p .1 .1 .0) in
+      opens-by slot len v (p .1 .0) (sizes .0) (sizes .1) (recordFor w) (gapFor w len) refl (p .1 .1 .1 .1 .0))
 
 module _ (store : List ℕ) (w : World) (g : Sound store w) (slot start len : ℕ) (free : slotAt (w .bench .slots) slot .loaded ≡ false) where
   abbrev slots′ : List Slot

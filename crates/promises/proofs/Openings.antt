@@ -3,18 +3,19 @@
 use mathlib.Core.Path.{_≡_, refl, sym, ap, _∙_}
 use mathlib.Core.List.{List, [], _∷_}
 use mathlib.Core.Logic.{_↔_}
-use mathlib.Core.Bool.{Bool, true, false, false≢true, or-true}
+use mathlib.Core.Bool.{Bool, true, false, _&&_, false≢true, or-true, and-false}
 use Prim.Native.Nat.{ℕ, zero, suc, _+_, _-_, _≤_, _<_}
 use native.Mathlib.Omega.{arith}
 use native.Mathlib.Decide.{decLt, decLe}
 use lib.Dec.{leb}
 use lib.ListN.{length, getD}
 use lib.Seq.{getD-set-same}
-use borrow.Author.Tests.{leb-true, le-leb, not-true, not-false}
-use Rattle.basis.proofs.Bools.{every-holds, holds-every, or-cases}
+use borrow.Author.Tests.{leb-true, le-leb, lt-leb, not-true, not-false}
+use Rattle.basis.proofs.Bools.{and-fst, and-both, every-holds, holds-every, or-cases}
 use Rattle.sound.specs.Below.{startOf}
 use Rattle.sound.specs.Bench.{noSession, codeOf, slotAt, World, sessionAt}
-use Rattle.sound.specs.Sound.{Sound}
+use Rattle.sound.specs.declared.Window.{Window}
+use Rattle.sound.specs.Sound.{insideShared, Sound}
 use Rattle.sound.proofs.Lists.{either-way, decided, all-at, all-from}
 use Rattle.sound.proofs.Facts.{long, used-in, opened}
 use Rattle.entry.specs.declared.Gap.{Gap}
@@ -23,7 +24,7 @@ use Rattle.entry.specs.declared.Answer.the-variants.{Done}
 use Rattle.basis.specs.Checks.{check, refused}
 use Rattle.basis.proofs.Checks.{Passing, never}
 use Rattle.entry.specs.Answer.{answerRuling, Result}
-use Rattle.entry.specs.Entries.{isSound, loadedAt, openChecks, lenOk, firstPlace, unused, recordFor, clearOf, lowest, gapAt, gapOf, gapFor, found, placeIn, fresh, opens, openOf}
+use Rattle.entry.specs.Entries.{isSound, loadedAt, windowChecks, lenOk, firstPlace, unused, recordFor, clearOf, lowest, gapAt, gapOf, gapFor, found, placeIn, fresh, opens, windowOpenOf}
 use Rattle.entry.proofs.Refusing.{passes, stops, by-checks}
 use Rattle.entry_open.proofs.Lowest.{first-at, lowest-passes}
 use Rattle.promises.specs.Words.{GapFrom, Opens}
@@ -127,45 +128,57 @@ len-some code len h = let q : 16 ≤ len = leb-true _ _ (every-holds _ h .0) in 
 
 -- ---- the two promises
 
-module _ (store : List ℕ) (w : World) (slot len : ℕ) (g : Sound store w) where
+module _ (store : List ℕ) (w : World) (slot len : ℕ) (v : Window) (g : Sound store w) where
   abbrev code : List ℕ
   code = codeOf store (slotAt (w .bench .slots) slot)
 
   -- an opening that passes its checks, at this place
   abbrev opening : ℕ → Result
-  opening a = opens slot len (startOf code len) (recordFor w) a w
+  opening a = opens slot len v (startOf code len) (recordFor w) a w
 
-  module _ (ld : loadedAt w slot ≡ true) (lk : lenOk (codeOf store (slotAt (w .bench .slots) slot)) len ≡ true) (left : recordFor w ≤ 15) where
-    number-by : (r : Gap) → gapFor w len ≡ r → answerRuling (openOf store slot len w .answer) ≡ refused 15 0 → r ≡ Full
-    unfolding openOf
+  module _ (ld : loadedAt w slot ≡ true) (lk : lenOk (codeOf store (slotAt (w .bench .slots) slot)) len ≡ true) (seen : insideShared (w .bench .s) v ≡ true) (left : recordFor w ≤ 15) where
+    sizes : (lenOk (codeOf store (slotAt (w .bench .slots) slot)) len && insideShared (w .bench .s) v) ≡ true
+    sizes = and-both _ _ lk seen
+
+    number-by : (r : Gap) → gapFor w len ≡ r → answerRuling (windowOpenOf store slot len v w .answer) ≡ refused 15 0 → r ≡ Full
+    unfolding windowOpenOf
     number-by Full e n = refl
     number-by (At a) e n =
-        let q = passes (openChecks store slot len w) w (opening (placeIn (gapFor w len))) (g .sound, (ld, (lk, (le-leb _ _ left, (ap found e, tt))))) in
+        let q = passes (windowChecks store slot len v w) w (opening (placeIn (gapFor w len))) (g .sound, (ld, (sizes, (le-leb _ _ left, (ap found e, tt))))) in
         absurd (never (ap (λ (r : Result). answerRuling (r .answer)) q) n)
 
-    refused-by : (r : Gap) → gapFor w len ≡ r → ((a : ℕ) → GapFrom w len a → ⊥) → answerRuling (openOf store slot len w .answer) ≡ refused 15 0
-    unfolding openOf
+    refused-by : (r : Gap) → gapFor w len ≡ r → ((a : ℕ) → GapFrom w len a → ⊥) → answerRuling (windowOpenOf store slot len v w .answer) ≡ refused 15 0
+    unfolding windowOpenOf
     refused-by Full e n =
         ap (λ (r : Result). answerRuling (r .answer))
-        (stops (check 11 0 (isSound store w) ∷ check 12 0 (loadedAt w slot) ∷ check 13 0 (lenOk code len) ∷ check 14 0 (leb (recordFor w) 15) ∷ []) 15
-        (found (gapFor w len)) [] w (opening (placeIn (gapFor w len))) (g .sound, (ld, (lk, (le-leb _ _ left, tt)))) (ap found e))
+        (stops (check 11 0 (isSound store w) ∷ check 12 0 (loadedAt w slot) ∷ check 13 0 (lenOk code len && insideShared (w .bench .s) v) ∷ check 14 0 (leb (recordFor w) 15) ∷ []) 15
+        (found (gapFor w len)) [] w (opening (placeIn (gapFor w len))) (g .sound, (ld, (sizes, (le-leb _ _ left, tt)))) (ap found e))
     refused-by (At a) e n = absurd (n a (gap-free store w g len a (is-gap store w g len a e)))
 
-    pub fifteen : (answerRuling (openOf store slot len w .answer) ≡ refused 15 0) ↔ ((a : ℕ) → GapFrom w len a → ⊥)
+    pub fifteen : (answerRuling (windowOpenOf store slot len v w .answer) ≡ refused 15 0) ↔ ((a : ℕ) → GapFrom w len a → ⊥)
     fifteen = (λ n. none-found store w g len (number-by (gapFor w len) refl n) (len-some code len lk), refused-by (gapFor w len) refl)
 
+  -- "A window not inside the S words gets 13"
+  pub thirteen : loadedAt w slot ≡ true → w .bench .s < v .first + v .len → answerRuling (windowOpenOf store slot len v w .answer) ≡ refused 13 0
+  unfolding windowOpenOf
+  thirteen ld out =
+      let wide : (lenOk code len && insideShared (w .bench .s) v) ≡ false = rw (lt-leb (v .first + v .len) (w .bench .s) out) (and-false (lenOk code len)) in
+      ap (λ (r : Result). answerRuling (r .answer))
+      (stops (check 11 0 (isSound store w) ∷ check 12 0 (loadedAt w slot) ∷ []) 13 (lenOk code len && insideShared (w .bench .s) v) _ w
+      (opening (placeIn (gapFor w len))) (g .sound, (ld, tt)) wide)
+
   -- what an opening that is done has done
-  done-by : Passing (openChecks store slot len w) → (r : Gap) → gapFor w len ≡ r → Opens store slot len w (opening (placeIn r) .world) (recordFor w)
+  done-by : Passing (windowChecks store slot len v w) → (r : Gap) → gapFor w len ≡ r → Opens store slot len v w (opening (placeIn r) .world) (recordFor w)
   done-by p Full e = absurd (false≢true (sym (ap found e) ∙ p .1 .1 .1 .1 .0))
   done-by p (At a) e =
       let lo : recordFor w ≤ 15 = leb-true _ _ (p .1 .1 .1 .0) in
       let inl : recordFor w < length (w .bench .sessions) = rw (g .sixteen) (omega (arith, lo)) in
-      let se = fresh slot a len (startOf code len) in
+      let se = fresh slot a len v (startOf code len) in
       let f = gap-in store w g len a e in
       record {
         place = a;
         gap = gap-free store w g len a (is-gap store w g len a e);
-        lowest-gap = none-before store w g len (At a) e (len-some code len (p .1 .1 .0));
+        lowest-gap = none-before store w g len (At a) e (len-some code len (and-fst _ _ (p .1 .1 .0)));
         low = lo;
         unused = not-true _ (first-at unused (w .bench .sessions) noSession inl);
         lowest-record = λ j h. not-false _ (first-least unused (w .bench .sessions) noSession j h);
@@ -174,9 +187,9 @@ module _ (store : List ℕ) (w : World) (slot len : ℕ) (g : Sound store w) whe
         zeroed = zeroed w (recordFor w) se a len f;
       }
 
-  pub opened-is : (i : ℕ) → openOf store slot len w .answer ≡ Done i → Opens store slot len w (openOf store slot len w .world) i
-  unfolding openOf
+  pub opened-is : (i : ℕ) → windowOpenOf store slot len v w .answer ≡ Done i → Opens store slot len v w (windowOpenOf store slot len v w .world) i
+  unfolding windowOpenOf
   opened-is i =
-      by-checks (λ r. r .answer ≡ Done i → Opens store slot len w (r .world) i) (openChecks store slot len w) w _
+      by-checks (λ r. r .answer ≡ Done i → Opens store slot len v w (r .world) i) (windowChecks store slot len v w) w _
       (λ n q e. let z : _≡_ {A = ℕ} 0 1 = cc in absurd (omega arith))
       (λ p e. let z : recordFor w ≡ i = cc in rw (← z) (done-by p (gapFor w len) refl))

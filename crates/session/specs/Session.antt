@@ -4,7 +4,6 @@ use mathlib.Core.Path.{_≡_}
 use mathlib.Core.List.{List}
 use mathlib.Core.Bool.{Bool}
 use Prim.Native.Nat.{ℕ, _+_}
-use lib.ListN.{take}
 use Rattle.basis.specs.Part.{part, splice}
 use Rattle.pmachine.specs.State.{Registers, Kind as Kinds, ready, finished, faulted, State}
 use Rattle.pmachine.specs.Step.{floor}
@@ -68,8 +67,9 @@ countOf k code shared st = stepsDone code shared k (stateOf st)
 abbrev pub stAt : ℕ → ℕ → List ℕ → Cpu → SessionState
 stAt base e m c = record { words = part base e m; cpu = c }
 
--- k steps, on the memory: the region is that of the run on the region alone, and no other word changes
-pub record RanTo (code m : List ℕ) (s base e k : ℕ) (c : Cpu) (r : Turned) (m′ : List ℕ) : Type 0 where
-  pub cpu : r .cpu ≡ runOf k code (take s m) (stAt base e m c) .cpu
-  pub done : r .done ≡ countOf k code (take s m) (stAt base e m c)
-  pub mem : m′ ≡ splice base e (runOf k code (take s m) (stAt base e m c) .words) m
+-- k steps, on the memory: the region is that of the run on the region alone, with the window's words for the shared words, which are `seen` words
+-- from the first on; and no other word changes
+pub record RanTo (code m : List ℕ) (first seen base e k : ℕ) (c : Cpu) (r : Turned) (m′ : List ℕ) : Type 0 where
+  pub cpu : r .cpu ≡ runOf k code (part first (first + seen) m) (stAt base e m c) .cpu
+  pub done : r .done ≡ countOf k code (part first (first + seen) m) (stAt base e m c)
+  pub mem : m′ ≡ splice base e (runOf k code (part first (first + seen) m) (stAt base e m c) .words) m

@@ -9,7 +9,7 @@ use machine::Turned;
 use plan::Regs;
 ghost use mathlib.Core.Path.{_≡_};
 ghost use mathlib.Core.Bool.{true};
-ghost use Prim.Native.Nat.{_-_, _≤_};
+ghost use Prim.Native.Nat.{_+_, _-_, _≤_};
 ghost use lib.ListN.{length};
 ghost use Rattle.segment.specs.Judge.{judged};
 ghost use Rattle.basis.specs.Checks.{passed};
@@ -86,11 +86,13 @@ pub fn cpu_ok(code: &[u8], len: usize, c: Cpu) -> bool
     both(at_most(low, len), both(at_most(low, sp), d))
 }
 
-// Up to k steps of the session whose region is the words from base up to end.
+// Up to k steps of the session whose region is the words from base up to end, and whose window is the `seen` words from the first on. The machine is
+// lent no more than the words from the window's first up to the region's end: so the window's words are the first of what it is lent.
 pub fn run(
     code: &[u8],
     memory: &mut [u16],
-    s: usize,
+    first: usize,
+    seen: usize,
     base: usize,
     end: usize,
     cpu: Cpu,
@@ -98,8 +100,10 @@ pub fn run(
 ) -> Turned
     requires { ⌜ judged (now code) ≡ passed ⌝ }
     requires { ⌜ cpuOk (now code) (end - base) cpu ≡ true ⌝ }
-    requires { ⌜ (end - base ≤ 32768) × (s ≤ 32768) × (s ≤ base) × (base ≤ end) × (end ≤ length (now memory)) ⌝ }
-    ensures { λ r. ⌜ RanTo (now (code .entry)) (now (memory .entry)) s base end k cpu r (now (memory .exit)) ⌝ }
+    requires { ⌜ (end - base ≤ 32768) × (seen ≤ 32768) × (first + seen ≤ base) × (base ≤ end) × (end ≤ length (now memory)) ⌝ }
+    ensures { λ r. ⌜ RanTo (now (code .entry)) (now (memory .entry)) first seen base end k cpu r (now (memory .exit)) ⌝ }
 {
-    machine::turn(memory, base, end, s, code, cpu, k)
+    let at = base - first;
+    let top = end - first;
+    machine::turn(&mut memory[first..end], at, top, seen, code, cpu, k)
 }

@@ -8,17 +8,19 @@ use native.Mathlib.Omega.{arith}
 use native.Mathlib.Decide.{decLt}
 use lib.Dec.{eqb}
 use lib.ListN.{length, getD, set, length-set, List·getD-eq-default}
+use lib.Seq.{getD-set-same}
 use borrow.Author.Tests.{leb-true, eqb-true, le-leb}
 use Rattle.basis.proofs.Bools.{every-holds, holds-every, or-cases}
 use Rattle.sound.specs.Below.{judged, Cpu, cpuOk}
-use Rattle.sound.specs.Bench.{codeOf, slotAt, slotOf, noSlot, noSession, World, sessionAt, codeAt, at-cpu, at-sessions}
+use Rattle.sound.specs.Bench.{codeOf, slotAt, slotOf, noSlot, noSession, World, sessionAt, codeAt, at-cpu, at-window, at-sessions}
 use Rattle.sound.specs.Sound.{all, limitsOk, slotOk, placed, apart, allApart, sessionOk, soundB, Sound}
 use Rattle.sound.specs.declared.Slot.{Slot}
+use Rattle.sound.specs.declared.Window.{Window}
 use Rattle.sound.specs.declared.Session.{Session}
 use Rattle.sound.specs.declared.Bench.{Bench}
 use Rattle.basis.specs.Checks.{passed}
 use Rattle.basis.proofs.Checks.{passed-is}
-use Rattle.sound.proofs.Lists.{all-at, all-set, apart-at, apart-set}
+use Rattle.sound.proofs.Lists.{all-at, all-set, apart-at, apart-set, apart-window}
 
 -- the test taken apart
 pub record Parts (b : Bench) (m store : List ℕ) : Type 0 where
@@ -65,6 +67,7 @@ pub record Opened (store : List ℕ) (w : World) (se : Session) : Type 0 where
   pub loaded : slotOf (w .bench .slots) se .loaded ≡ true
   pub above : w .bench .s ≤ se .base
   pub inside : se .base + se .len ≤ length (w .mem)
+  pub seen : se .window .first + se .window .len ≤ w .bench .s
   pub least : 16 ≤ se .len
   pub most : se .len ≤ 32768
   pub checked : judged (codeOf store (slotOf (w .bench .slots) se)) ≡ passed
@@ -119,6 +122,7 @@ module _ (store : List ℕ) (w : World) (g : Sound store w) where
         loaded = a .1 .0;
         above = leb-true _ _ (b .0);
         inside = rw long (leb-true _ _ (b .1 .0));
+        seen = leb-true _ _ (b .1 .1 .0);
         least = leb-true _ _ (a .1 .1 .0);
         most = leb-true _ _ (a .1 .1 .1 .0);
         checked = slot-good (sessionAt w i .slot) (a .1 .0);
@@ -161,3 +165,37 @@ module _ (store : List ℕ) (w : World) (g : Sound store w) where
               sessions = all-set ok l₀ i noSession se (new ∙ sym (passing i u ok (parts .sessions))) ∙ parts .sessions;
             });
       }
+
+  -- another window inside the S words in the record of an open session; and no other would do
+  pub window-good : (i : ℕ) → sessionAt w i .used ≡ true → (v : Window) → v .first + v .len ≤ w .bench .s
+      → Sound store (record { bench = at-sessions (w .bench) (set (w .bench .sessions) i (at-window (sessionAt w i) v)); mem = w .mem })
+  unfolding sessionOk placed
+  window-good i u v h =
+      let l₀ = w .bench .sessions in
+      let se = at-window (sessionAt w i) v in
+      let ok = placed (w .bench .n) (w .bench .s) in
+      let old = every-holds _ (rw u at (passing i u ok (parts .places))) in
+      let new : ok se ≡ true = rw u (holds-every _ (old .0, (old .1 .0, (le-leb _ _ h, tt)))) in
+      record {
+        sixteen = length-set l₀ i se ∙ g .sixteen;
+        sound =
+            put-together _ (w .mem) store
+            (record {
+              limits = parts .limits;
+              sized = parts .sized;
+              slots = parts .slots;
+              places = all-set ok l₀ i noSession se (new ∙ sym (passing i u ok (parts .places))) ∙ parts .places;
+              lone = apart-window l₀ i noSession v ∙ parts .lone;
+              sessions = all-set (sessionOk store (w .bench .slots)) l₀ i noSession se refl ∙ parts .sessions;
+            });
+      }
+
+pub outside-unsound : (store : List ℕ) (w : World) → Sound store w → (i : ℕ) → sessionAt w i .used ≡ true → (v : Window)
+    → Sound store (record { bench = at-sessions (w .bench) (set (w .bench .sessions) i (at-window (sessionAt w i) v)); mem = w .mem })
+    → v .first + v .len ≤ w .bench .s
+outside-unsound store w g i u v h =
+    let new : World = record { bench = at-sessions (w .bench) (set (w .bench .sessions) i (at-window (sessionAt w i) v)); mem = w .mem } in
+    let same : sessionAt new i ≡ at-window (sessionAt w i) v =
+    getD-set-same (w .bench .sessions) i (at-window (sessionAt w i) v) noSession (used-in store w g i u) in
+    let f = rw same at (opened store new h i (rw same u)) in
+    f .seen

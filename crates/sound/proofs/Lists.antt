@@ -9,9 +9,10 @@ use lib.ListN.{length, length-map, getD, set, List·getD-eq-default}
 use Rattle.basis.proofs.Bools.{and-fst, and-snd, and-both}
 pub use Rattle.pmachine.proofs.Rows.{either-way, decided}
 use Rattle.sound.specs.Below.{Cpu}
-use Rattle.sound.specs.Bench.{at-cpu}
+use Rattle.sound.specs.Bench.{at-cpu, at-window}
 use Rattle.sound.specs.Sound.{all, apart, allApart}
 use Rattle.sound.specs.declared.Session.{Session}
+use Rattle.sound.specs.declared.Window.{Window}
 
 module _ {A : Type 0} (p : A → Bool) where
   -- an element of a list that passes
@@ -48,6 +49,10 @@ module _ {A : Type 0} (p : A → Bool) where
   all-put (y ∷ l) (suc i) x h e =
       and-both (p y) (all p (set l i x)) (and-fst (p y) (all p l) h) (all-put l i x (and-snd (p y) (all p l) h) e)
 
+pub all-same : {A : Type 0} (p q : A → Bool) (l : List A) → ((x : A) → p x ≡ q x) → all p l ≡ all q l
+all-same p q [] f = refl
+all-same p q (x ∷ l) f = λ i. f x i && all-same p q l f i
+
 pub all-imp : {A : Type 0} (p q : A → Bool) (l : List A) → ((x : A) → p x ≡ true → q x ≡ true) → all p l ≡ true → all q l ≡ true
 all-imp p q [] f h = refl
 all-imp p q (x ∷ l) f h =
@@ -75,13 +80,22 @@ unfolding apart
 unused-from-all a [] h = refl
 unused-from-all a (x ∷ l) h = rw (unused-from-all a l h, h)
 
--- other registers in a record change nothing of who is apart
+-- a record that is apart from every other as the one was in whose place it stands changes nothing of who is apart
+pub apart-like : (l : List Session) (i : ℕ) (d se : Session) → ((x : Session) → apart se x ≡ apart (getD l i d) x)
+    → ((x : Session) → apart x se ≡ apart x (getD l i d))
+    → allApart (set l i se) ≡ allApart l
+apart-like [] i d se f g = refl
+apart-like (x ∷ l) zero d se f g = rw (all-same (apart se) (apart x) l f)
+apart-like (x ∷ l) (suc i) d se f g = rw (apart-like l i d se f g, all-set (apart x) l i d se (g x))
+
+-- other registers in a record do not, nor does another window
 pub apart-set : (l : List Session) (i : ℕ) (d : Session) (c : Cpu) → allApart (set l i (at-cpu (getD l i d) c)) ≡ allApart l
 unfolding apart
-apart-set [] i d c = refl
-apart-set (x ∷ l) zero d c = refl
-apart-set (x ∷ l) (suc i) d c =
-    rw (apart-set l i d c, all-set (apart x) l i d (at-cpu (getD l i d) c) refl)
+apart-set l i d c = apart-like l i d (at-cpu (getD l i d) c) (λ x. refl) (λ x. refl)
+
+pub apart-window : (l : List Session) (i : ℕ) (d : Session) (v : Window) → allApart (set l i (at-window (getD l i d) v)) ≡ allApart l
+unfolding apart
+apart-window l i d v = apart-like l i d (at-window (getD l i d) v) (λ x. refl) (λ x. refl)
 
 -- one record replaced by one that is apart from every other
 pub apart-put : (l : List Session) (i : ℕ) (x d : Session) → allApart l ≡ true

@@ -11,6 +11,7 @@ use Rattle.basis.specs.Bools.{every}
 use Rattle.basis.specs.Checks.{isPassed}
 use Rattle.sound.specs.Below.{judged, cpuOk}
 use Rattle.sound.specs.declared.Slot.{Slot}
+use Rattle.sound.specs.declared.Window.{Window}
 use Rattle.sound.specs.declared.Session.{Session}
 use Rattle.sound.specs.declared.Bench.{Bench}
 use Rattle.sound.specs.Bench.{codeOf, slotOf, World}
@@ -29,9 +30,13 @@ unfoldable pub slotOk : List ℕ → Slot → Bool
 slotOk store sl =
     not (sl .loaded) || every (leb (sl .start + sl .len) (length store) ∷ isPassed (judged (codeOf store sl)) ∷ [])
 
--- "every open region lies from word S up and inside memory"
+-- request 7: "A window not inside the S words gets 13, in soundness 11." So this is a window inside them; an empty one at their end is, too.
+abbrev pub insideShared : ℕ → Window → Bool
+insideShared s v = leb (v .first + v .len) s
+
+-- "every open region lies from word S up and inside memory", and every open session's window inside the S words
 unfoldable pub placed : ℕ → ℕ → Session → Bool
-placed n s se = not (se .used) || every (leb s (se .base) ∷ leb (se .base + se .len) n ∷ [])
+placed n s se = not (se .used) || every (leb s (se .base) ∷ leb (se .base + se .len) n ∷ insideShared s (se .window) ∷ [])
 
 -- "no two regions overlap (touching is allowed)"
 unfoldable pub apart : Session → Session → Bool

@@ -16,30 +16,38 @@ pub struct Slot {
     pub len: usize,
 }
 
-// The slot that the session runs, its region (len words from base on), and its registers and kind.
+// The shared words that a session sees, at 32,768 onward: len of them, from word first on.
+pub struct Window {
+    pub first: usize,
+    pub len: usize,
+}
+
+// The slot that the session runs, its region (len words from base on), its window of the shared words, and its registers and kind.
 pub struct Session {
     pub used: bool,
     pub slot: usize,
     pub base: usize,
     pub len: usize,
+    pub window: Window,
     pub cpu: Cpu,
 }
 
 impl Session {
-    // The record of a session that was opened on a slot, with the len words from base on, at these registers.
-    pub fn fresh(slot: usize, base: usize, len: usize, cpu: Cpu) -> Self
-        ensures { λ r. ⌜ r ≡ fresh slot base len cpu ⌝ }
+    // The record of a session that was opened on a slot, with the len words from base on and this window, at these registers.
+    pub fn fresh(slot: usize, base: usize, len: usize, window: Window, cpu: Cpu) -> Self
+        ensures { λ r. ⌜ r ≡ fresh slot base len window cpu ⌝ }
     {
         let mut out = no_session();
         out.used = true;
         out.slot = slot;
         out.base = base;
         out.len = len;
+        out.window = window;
         out.cpu = cpu;
         out
     }
 
-    // The record at other registers: slot and region stay.
+    // The record at other registers: slot, region and window stay.
     pub fn at(self, cpu: Cpu) -> Self
         ensures { λ r. ⌜ r ≡ at-cpu self cpu ⌝ }
     {
@@ -77,6 +85,7 @@ pub fn no_session() -> Session
         slot: 0,
         base: 0,
         len: 0,
+        window: Window { first: 0, len: 0 },
         cpu: no_cpu(),
     }
 }

@@ -1,4 +1,4 @@
-// Soundness of the regions: each lies above the shared words and inside memory, and no two overlap.
+// Soundness of the regions: each lies above the shared words and inside memory, its session's window inside the shared words, and no two overlap.
 // Above: `sound_test`, the whole test. Below: `sound`, for the records, and the small tests of `bounds`.
 ghost use mathlib.Core.Path.{_≡_};
 ghost use Rattle.sound.specs.Sound.{all, placed, apart, allApart};
@@ -14,7 +14,9 @@ fn is_placed(n: usize, s: usize, se: Session) -> bool
     if !se.used {
         return true;
     }
-    both(at_most(s, se.base), ends_by(se.base, se.len, n))
+    let window = ends_by(se.window.first, se.window.len, s);
+    let region = both(ends_by(se.base, se.len, n), window);
+    both(at_most(s, se.base), region)
 }
 
 pub fn all_placed(n: usize, s: usize, sessions: [Session; 16]) -> bool

@@ -2,7 +2,7 @@
 //! with their orders.
 
 use super::{at_record, at_slot, down_to, fill_words, hand_segment, ready, set_bytes, Story, Table};
-use crate::bench::{Record, Slot};
+use crate::bench::{Record, Slot, Window};
 use crate::generate::SMALL;
 use crate::machine::{Kind, Session};
 use crate::world::{blank_bench, Call, World};
@@ -41,11 +41,11 @@ pub fn in_slot(world: &mut World, number: usize, start: u64, length: u64) {
     *at_slot(world, number) = Slot { loaded: true, start, length };
 }
 
-/// A session just opened; the small segment starts at 30, the hand segment at
-/// 34.
+/// A session just opened, with all S words for its window; the small segment
+/// starts at 30, the hand segment at 34.
 pub fn open(world: &mut World, number: usize, slot: u64, base: u64, length: u64, start: u64) {
-    *at_record(world, number) =
-        Record { open: true, slot, base, length, session: ready(length, 1, start, 1) };
+    let (session, window) = (ready(length, 1, start, 1), Window::all(world.bench.shared));
+    *at_record(world, number) = Record { open: true, slot, base, length, window, session };
     fill_words(&mut world.memory, base as usize, &vec![0; length as usize]);
 }
 

@@ -4,7 +4,7 @@
 use super::{
     at_record, down_to, fill_words, hand_segment, most_first, ready, set_bytes, set_words, Story, Table,
 };
-use crate::bench::{Record, Slot};
+use crate::bench::{Record, Slot, Window};
 use crate::generate::SMALL;
 use crate::machine::{Kind, Session};
 use crate::world::{blank_bench, Call, World, UNWRITTEN};
@@ -44,8 +44,8 @@ pub fn opened(bytes: &[u8], length: u64, start: u64) -> World {
     let mut bench = blank_bench();
     (bench.shared, bench.words) = (2, length + 4);
     bench.slots[0] = Slot { loaded: true, start: 0, length: bytes.len() as u64 };
-    bench.records[0] =
-        Record { open: true, slot: 0, base: 2, length, session: ready(length, 1, start, 1) };
+    let (session, window) = (ready(length, 1, start, 1), Window::all(2));
+    bench.records[0] = Record { open: true, slot: 0, base: 2, length, window, session };
     let mut memory = vec![9; length as usize + 4];
     fill_words(&mut memory, 2, &vec![0; length as usize]);
     World { bench, memory, store: bytes.to_vec() }

@@ -5,7 +5,7 @@ use super::benches::{empty, in_slot, rigged};
 use super::pool::{turned_with_first, with_first};
 use super::segments::hand_with;
 use super::{at_record, ready, set_sp, set_words, Table};
-use crate::bench::{Record, Slot};
+use crate::bench::{Record, Slot, Window};
 use crate::machine::Kind;
 use crate::world::World;
 
@@ -71,8 +71,9 @@ fn soundness_of_sizes(t: &mut Table) {
     unsound!(t, |world| world.bench.shared = WIDE + 4);
     unsound!(t, |world| world.bench.shared = u64::MAX);
     unsound!(t, |world| world.bench.shared = 5); // region 0 begins at 4
-    still_sound!(t, |world| world.bench.shared = 3);
-    still_sound!(t, |world| world.bench.shared = 0);
+    // S falls, and the windows with it
+    still_sound!(t, |world| with_shared(world, 3));
+    still_sound!(t, |world| with_shared(world, 0));
     // without sessions: S against N, S against 32,768, N against 1,048,576
     for (shared, words, good) in [
         (100, 100, true), (101, 100, false), (32_768, 40_000, true), (32_769, 40_000, false),
@@ -83,6 +84,14 @@ fn soundness_of_sizes(t: &mut Table) {
         world.bench.words = words;
         world.memory = vec![0; words as usize];
         t.story(&format!("N = {words}, S = {shared}"), world).sound(good).end();
+    }
+}
+
+/// Fewer shared words, all of which each session sees.
+fn with_shared(world: &mut World, shared: u64) {
+    world.bench.shared = shared;
+    for record in world.bench.records.iter_mut().filter(|record| record.open) {
+        record.window = Window::all(shared);
     }
 }
 
@@ -282,8 +291,9 @@ fn soundness_of_l_against_6_and_g(t: &mut Table) {
     for (length, good) in [(32_768, true), (32_769, false), (WIDE + 32_768, false), (u64::MAX, false)] {
         let mut world = empty(0, 32_769);
         in_slot(&mut world, 0, 0, 32);
+        let (session, window) = (ready(20, 1, 30, 1), Window::NONE);
         *at_record(&mut world, 0) =
-            Record { open: true, slot: 0, base: 0, length, session: ready(20, 1, 30, 1) };
+            Record { open: true, slot: 0, base: 0, length, window, session };
         t.story(&format!("L = {length}"), world).sound(good).end();
     }
 }

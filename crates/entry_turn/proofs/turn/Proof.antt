@@ -1,17 +1,19 @@
 -- `entry_turn::turn` meets its contract.
 use borrow.Author.Needs.{needs}
 use borrow.Author.Tests.{le-leb, lt-leb}
-use lib.ListN.{set, take}
+use lib.ListN.{length, set}
 use mathlib.Core.List.{List}
 use mathlib.Core.Path.{_≡_, ap, _∙_}
 use native.Mathlib.Omega.{arith}
 use Prim.Native.Nat.{ℕ, _+_, _-_, _≤_}
 use Rattle.basis.specs.Part.{part}
+use Rattle.basis.proofs.Part.{part-take}
 use Rattle.sound.specs.declared.Bench.{Bench}
 use Rattle.sound.specs.declared.Session.{Session}
 use Rattle.sound.specs.Below.{Turned, Cpu, stateOf, RanTo}
 use Rattle.sound.specs.Bench.{World, worldOf, sessionAt, codeOf, slotOf, at-sessions, at-cpu}
 use Rattle.sound.proofs.Below.{count-most}
+use Rattle.sound.proofs.Facts.{Opened}
 use Rattle.entry.specs.declared.Answer.{Answer}
 use Rattle.entry.specs.declared.Answer.the-variants.{Done}
 use Rattle.entry.specs.Answer.{done}
@@ -23,21 +25,24 @@ use Rattle.entry_turn.proofs.turn.Tie as tie
 
 -- ---- the run, of any numbers
 
-few-done : (code m : List ℕ) (s base e k : ℕ) (c : Cpu) (r : Turned) (m′ : List ℕ) → RanTo code m s base e k c r m′ → k ≤ 65535 → r .done ≤ 65535
-few-done code m s base e k c r m′ t h = omega (arith, t .done, count-most k code (take s m) (stateOf (part base e m) c))
+few-done : (code m : List ℕ) (f n base e k : ℕ) (c : Cpu) (r : Turned) (m′ : List ℕ) → RanTo code m f n base e k c r m′ → k ≤ 65535 → r .done ≤ 65535
+few-done code m f n base e k c r m′ t h = omega (arith, t .done, count-most k code (part f (f + n) m) (stateOf (part base e m) c))
 
 module _ (store : List ℕ) (w : World) (i k : ℕ) where
   ran : (code : List ℕ) (se next : Session) (r : Turned) (a : Answer) (b : Bench) (m : List ℕ)
       → se ≡ sessionAt w i
       → code ≡ codeOf store (slotOf (w .bench .slots) se)
-      → RanTo code (w .mem) (w .bench .s) (se .base) (se .base + se .len) k (se .cpu) r m
+      → Opened store w se
+      → RanTo code (w .mem) (se .window .first) (se .window .len) (se .base) (se .base + se .len) k (se .cpu) r m
       → next ≡ at-cpu se (r .cpu)
       → b ≡ at-sessions (w .bench) (set (w .bench .sessions) i next)
       → a ≡ Done (r .done)
       → record { answer = a; world = worldOf b m } ≡ done (doneOf store i k w) (put i (ranOf store i k w) w)
-  ran code se next r a b m es ec t en eb ea =
+  ran code se next r a b m es ec f t en eb ea =
+      let o : w .bench .s ≤ length (w .mem) = omega (arith, f .above, f .inside) in
+      let seen = rw es at (part-take (w .bench .s) (w .mem) (se .window .first) (se .window .first + se .window .len) (omega arith) (f .seen) o) in
       let t′ = rw (ec, es) at t in
-      rw (ea, eb, en, es, t′ .done, t′ .cpu, t′ .mem)
+      rw (ea, eb, en, es, t′ .done, t′ .cpu, t′ .mem, seen)
 
 -- ---- where the guard answered, of the session that was read; and where it passed
 
@@ -89,13 +94,13 @@ run-requires c κs =
     let f = g .session in
     let se = guard-at coded .before .before .session-at .result in
     let l : se .base + se .len - se .base ≡ se .len = omega arith in
-    rw (coded-at coded, l) (f .checked, (f .cpu-ok, (f .most, g .few, f .above, omega arith, f .inside)))
+    rw (coded-at coded, l) (f .checked, (f .cpu-ok, (f .most, omega (arith, f .seen, g .few), omega (arith, f .seen, f .above), omega arith, f .inside)))
 
 steps-done-requires : tie.Need-steps-done-requires
 steps-done-requires c κs =
     let running = c .before .before .before .before .before in
     let few = few-at (running .before .before .before .before) .if1 .left in
-    let done = few-done _ _ _ _ _ _ _ _ _ (running .run .ensures) (omega (arith, few)) in
+    let done = few-done _ _ _ _ _ _ _ _ _ _ (running .run .ensures) (omega (arith, few)) in
     omega (arith, few, done)
 
 returns-3 : tie.Need-returns-3
@@ -107,7 +112,7 @@ returns-3 c =
     let few = few-at coded in
     accepts _ _ _ (passed-first _ _ _ (going-at (few .before) .passes) (holds _ _ _ _ _ (le-leb _ 65535 (few .if1 .left)) none-left))
     (ran _ (world (guard-at coded)) _ _ _ _ _ (running .run .result) _ _ _ (guard-at coded .before .before .session-at .ensures) (coded-at coded)
-    (running .run .ensures) (stored .before .at .ensures) (stored .with-session .ensures) (c .steps-done .ensures))
+    (going-at (few .before) .session) (running .run .ensures) (stored .before .at .ensures) (stored .with-session .ensures) (c .steps-done .ensures))
 
 pub turn-spec : {M : Type 1} → statement M
 turn-spec =

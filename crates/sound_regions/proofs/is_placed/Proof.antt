@@ -14,5 +14,16 @@ is-placed-spec =
     (search needs)
     (search needs)
     (search needs)
-    (λ c. let low = c .before .before in
-    rw (low .before .if1 .left, c .both .ensures, low .at-most .ensures, c .before .ends-by .ensures)))
+    (search needs)
+    (search needs)
+    (λ c.
+    let region = c .before .before in
+    let window = region .before .before in
+    rw (
+      window .before .if1 .left,
+      c .both2 .ensures,
+      c .before .at-most .ensures,
+      region .both .ensures,
+      region .before .ends-by2 .ensures,
+      window .ends-by .ensures,
+    )))

@@ -1,0 +1,2 @@
+-- Laws of the archive's entries.
+pub mod Laws
