@@ -206,11 +206,13 @@ pub fn named_window(rng: &mut Rng, all: u64) -> Window {
 /// A window whose numbers, or whose sum, are cut by 32 or 64 bits.
 pub fn far(rng: &mut Rng, first: u64, count: u64) -> Window {
     let wide = 1 << 32;
-    let wraps = 0u64.wrapping_sub(count.max(1));
+    // two words at least, so that the number after `wraps` is not 0
+    let some = count.max(2);
+    let wraps = 0u64.wrapping_sub(some);
     let (first, count) = rng.pick(
         &[
             (wide + first, count), (first, wide + count), (wide, 0), (wide - 1, 1), (0, wide), (first, wide - first),
-            (wraps, count.max(1)), (wraps.wrapping_add(1), count.max(1)), (u64::MAX, 1), (1, u64::MAX), (u64::MAX, 0),
+            (wraps, some), (wraps + 1, some), (u64::MAX, 1), (1, u64::MAX), (u64::MAX, 0),
             (0, u64::MAX), (1 << 63, 1 << 63), (u64::MAX, u64::MAX), (2, u64::MAX - 1),
         ],
         (u64::MAX, 1),

@@ -79,7 +79,7 @@ fn opened(b: Bench, book: &mut [u8], i: usize, name: &[u8], view: View) -> Outco
     pond_rows::put(book, pond_rows::session_row(i), name);
     pond_rows::put_view(book, i, view);
     let o = state(b, book, i);
-    pond_windows::opened(pond_windows::seen_by(b, book, told::record(b, i), i));
+    pond_windows::opened(pond_windows::seen_by(book, told::record(b, i), i));
     o
 }
 
@@ -108,7 +108,7 @@ pub fn show(b: Bench, memory: &[u16], store: &[u8], book: &[u8], session: u64) -
     if !se.used {
         return refusals::of_session(12, 0, session);
     }
-    let seen = pond_windows::seen_by(b, book, se, i);
+    let seen = pond_windows::seen_by(book, se, i);
     state(b, book, i);
     pond_windows::shown(seen);
     let cpu = se.cpu;

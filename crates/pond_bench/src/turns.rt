@@ -49,7 +49,7 @@ fn turned(b: Bench, memory: &mut [u16], store: &[u8], book: &[u8], i: usize, ste
     let se = told::record(after, i);
     ended(book, i, went.steps, se);
     faults::instruction(after, store, se);
-    let seen = pond_windows::seen_by(after, book, se, i);
+    let seen = pond_windows::seen_by(book, se, i);
     let outcome = faults::reason(after, memory, store, se, seen);
     Next {
         bench: after,

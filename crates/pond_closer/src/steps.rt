@@ -39,7 +39,7 @@ pub fn step(
     told::session(book, i);
     pond_say::text(b": ");
     ended(after);
-    let seen = pond_windows::seen_by(bench, book, after, i);
+    let seen = pond_windows::seen_by(book, after, i);
     let o = faults::reason(bench, memory, store, after, seen);
     Next {
         bench,

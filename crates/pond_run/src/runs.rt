@@ -231,7 +231,7 @@ fn ended(b: Bench, memory: &[u16], book: &[u8], seg: &[u8], steps: u64) -> Outco
     faults::instruction(b, seg, se);
     pond_look::deepest(b, seg, se);
     pond_look::words(b, memory, book, 0, Wanted::All);
-    let o = faults::reason(b, memory, seg, se, pond_windows::seen_by(b, book, se, 0));
+    let o = faults::reason(b, memory, seg, se, pond_windows::seen_by(book, se, 0));
     turns::stopped(finished(o, se))
 }
 

@@ -13,7 +13,7 @@ pub struct Seen {
     pub len: usize,
 }
 
-pub fn seen_by(b: Bench, book: &[u8], se: Session, i: usize) -> Seen {
+pub fn seen_by(book: &[u8], se: Session, i: usize) -> Seen {
     let w = se.window;
     Seen {
         view: pond_rows::view_of(book, i),
