@@ -32,34 +32,40 @@ enum { ARCHIVES = sizeof RECORDS / sizeof *RECORDS, FARM_REQUESTS = sizeof FARM 
 static uint16_t memory[SHARED + WORDS];
 static double now(void) { struct timespec t; clock_gettime(CLOCK_MONOTONIC, &t); return t.tv_sec * 1e9 + t.tv_nsec; }
 
-/* The least time of a run, and how many requests of the last were done. */
-static double run(int r, int b, uint64_t rounds, uint64_t *done) {
+/* One run: ROUNDS requests r on bench or archive b, or none; it answers how many were done. */
+static uint64_t on_bench(int r, int b, uint64_t rounds) {
     uint32_t slots = BENCH[b].slots, sessions = BENCH[b].sessions;
     if (slots == 16 && REQUEST[r].fills == SLOT) slots--;
     if (sessions == 16 && REQUEST[r].fills == SESSION) sessions--;
+    return bench_asked(memory, WORDS, seg, w2, slots, sessions, LEN, REQUEST[r].what, REQUEST[r].n, rounds);
+}
+
+static uint64_t on_archive(int r, int b, uint64_t rounds) {
+    uint64_t shared = 4 * RECORDS[b];
+    return archive_asked(memory, shared + WORDS, seg, w2, shared, FARM[r].what, FARMS / 2, rounds);
+}
+
+/* The least time of many runs, and how many requests of the last were done. */
+static double least(uint64_t (*run)(int, int, uint64_t), int r, int b, uint64_t rounds, uint64_t *done) {
     double best = 1e18;
     for (int i = 0; i < RUNS; i++) {
         double start = now();
-        *done = bench_asked(memory, WORDS, seg, w2, slots, sessions, LEN, REQUEST[r].what, REQUEST[r].n, rounds);
+        *done = run(r, b, rounds);
         double ns = now() - start;
         if (ns < best) best = ns;
     }
     return best;
 }
 
-/* The same of an archive of so many records, those of all farms in their order. */
-static double of_archive(int r, uint64_t records, uint64_t rounds, uint64_t *done) {
-    for (uint64_t i = 0; i < records; i++) memory[4 * i] = i * FARMS / records;
-    double best = 1e18;
-    for (int i = 0; i < RUNS; i++) {
-        double start = now();
-        *done = archive_asked(memory, 4 * records + WORDS, seg, w2, 4 * records, FARM[r].what, FARMS / 2, rounds);
-        double ns = now() - start;
-        if (ns < best) best = ns;
-    }
-    return best;
+/* Prints ns a request, or that it was refused; answers whether it was done. */
+static int told(uint64_t (*run)(int, int, uint64_t), int r, int b, uint64_t rounds) {
+    uint64_t built, done;
+    double build = least(run, r, b, 0, &built), all = least(run, r, b, rounds, &done);
+    if (done == rounds) printf("  %28.0f", (all - build) / rounds); else printf("  %28s", "refused");
+    return done == rounds;
 }
 
+/* The archive's entries, on archives of so many records, those of all farms in their order. */
 static int archives(void) {
     int good = 1;
     many(10);
@@ -69,10 +75,8 @@ static int archives(void) {
     for (int r = 0; r < FARM_REQUESTS; r++) {
         printf("  %-16s", FARM[r].name);
         for (int a = 0; a < ARCHIVES; a++) {
-            uint64_t built, done;
-            double build = of_archive(r, RECORDS[a], 0, &built), all = of_archive(r, RECORDS[a], ROUNDS, &done);
-            if (done == ROUNDS) printf("  %28.0f", (all - build) / ROUNDS); else printf("  %28s", "refused");
-            good &= done == ROUNDS;
+            for (uint64_t i = 0; i < RECORDS[a]; i++) memory[4 * i] = i * FARMS / RECORDS[a];
+            good &= told(on_archive, r, a, ROUNDS);
         }
         puts("");
     }
@@ -88,11 +92,8 @@ int main(void) {
         uint64_t rounds = REQUEST[r].n > 1000 && REQUEST[r].what == 3 ? 4 : ROUNDS;
         printf("  %-16s", REQUEST[r].name);
         for (int b = 0; b < BENCHES; b++) {
-            uint64_t built, done;
             many(BENCH[b].routines);
-            double build = run(r, b, 0, &built), all = run(r, b, rounds, &done);
-            if (done == rounds) printf("  %28.0f", (all - build) / rounds); else printf("  %28s", "refused");
-            good &= done == rounds;
+            good &= told(on_bench, r, b, rounds);
         }
         puts("");
     }

@@ -8,7 +8,7 @@ use native.Mathlib.Omega.{arith}
 use lib.ListN.{length, getD, take}
 use borrow.Author.Tests.{eq-eqb}
 use lib.Seq.{ext-getD, length-take-le, getD-take}
-use Rattle.basis.proofs.Part.{length-part, getD-part}
+use Rattle.basis.proofs.Part.{getD-part}
 use Rattle.interleave.specs.Interleave.{mine}
 use Rattle.sound.specs.declared.Bench.{Bench}
 use Rattle.sound.specs.declared.Session.{Session}
@@ -29,6 +29,7 @@ use Rattle.promises.specs.Words.{Opens}
 use Rattle.promises.proofs.Requests.{stays-sound}
 use Rattle.promises.proofs.Openings.{opened-is}
 use Rattle.isolation.specs.Isolation.{Turn, after, Agree}
+use Rattle.isolation.proofs.Acts.{own-long}
 use Rattle.isolation.proofs.Theorem.{isolation}
 use Rattle.demands.specs.Demands.{OfFarm, NoOtherFarm, FirstFall}
 
@@ -113,8 +114,7 @@ module _ (store : List ℕ) (w : World) (slot len : ℕ) (v : Window) (i : ℕ) 
   fits = opened store new sound i used .inside
 
   words-long : length (wordsOf new (sessionAt new i)) ≡ len
-  words-long =
-      length-part (sessionAt new i .base) (sessionAt new i .base + sessionAt new i .len) (new .mem) (omega arith) fits ∙ omega (arith, size)
+  words-long = own-long store i 0 new sound used ∙ size
 
   words-zero : (k : ℕ) → k < len → getD (wordsOf new (sessionAt new i)) k 0 ≡ 0
   words-zero k h =

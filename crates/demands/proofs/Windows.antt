@@ -25,6 +25,7 @@ use Rattle.session.specs.Session.{cpuOk}
 use Rattle.sound.specs.Bench.{World, sessionAt, wordsOf, codeAt, windowAt}
 use Rattle.sound.specs.Sound.{Sound}
 use Rattle.sound.proofs.Facts.{opened, parts, limits}
+use Rattle.isolation.proofs.Acts.{own-long}
 
 -- ---- one step
 
@@ -133,10 +134,6 @@ module _ (store : List ℕ) (w : World) (g : Sound store w) (i : ℕ) (u : sessi
   seen-word : (j : ℕ) → j < count → getD (windowAt w i) j 0 ≡ getD (w .mem) (first + j) 0
   seen-word j o = rw seen-is (getD-part first (first + count) (w .mem) (omega arith) window-fits j (omega arith))
 
-  own-long : length (wordsOf w (sessionAt w i)) ≡ sessionAt w i .len
-  own-long =
-      length-part (sessionAt w i .base) (sessionAt w i .base + sessionAt w i .len) (w .mem) (omega arith) (opened store w g i u .inside) ∙ omega arith
-
   few : count ≤ 32768
   few = let l = limits (w .bench .n) (w .bench .s) (parts store w g .limits) in omega (arith, opened store w g i u .seen, l .few)
 
@@ -153,10 +150,11 @@ module _ (store : List ℕ) (w : World) (g : Sound store w) (i : ℕ) (u : sessi
       let f = opened store w g i u in
       let r = regsOf (sessionAt w i .cpu .regs) in
       let own = wordsOf w (sessionAt w i) in
+      let long = own-long store i 0 w g u in
       let seen = windowAt w i in
       let t = ranged (codeAt store w i) (sessionAt w i .len) r (kindOf (sessionAt w i .cpu .kind)) (f .cpu-ok) in
       let o′ : 32768 ≤ getD own (r .sp) 0 + n = rw (← e) o in
-      let step = read-outcome (codeAt store w i) seen own r n next (t .sp-low) (rw own-long some) (rw own-long (f .most)) (rw seen-long few) o′ in
+      let step = read-outcome (codeAt store w i) seen own r n next (t .sp-low) (rw long some) (rw long (f .most)) (rw seen-long few) o′ in
       rw d (rw e (step ∙ rw seen-long (there (getD own (r .sp) 0 + n) (leb 1 (getD own (r .sp) 0)) (lowered (moved r (r .sp) next)) (r .sp) o′)))
     where
       there : (at : ℕ) (test : Bool) (q : Registers) (sp : ℕ) → 32768 ≤ at

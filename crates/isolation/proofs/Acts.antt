@@ -103,7 +103,7 @@ module _ (store : List ℕ) (i k : ℕ) (w : World) (g : Sound store w) where
   pub ran-is : sessionAt w i .used ≡ true → runOf k (codeAt store w i) (windowAt w i) (ownState (privateOf i w)) ≡ ranOf store i k w
   ran-is u = rw u
 
-  own-long : sessionAt w i .used ≡ true → length (wordsOf w (sessionAt w i)) ≡ sessionAt w i .len
+  pub own-long : sessionAt w i .used ≡ true → length (wordsOf w (sessionAt w i)) ≡ sessionAt w i .len
   own-long u =
       length-part (sessionAt w i .base) (sessionAt w i .base + sessionAt w i .len) (w .mem) (omega arith) (opened store w g i u .inside) ∙ omega arith
 
