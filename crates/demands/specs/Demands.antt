@@ -266,7 +266,7 @@ pub record Demands : Type 0 where
   -- an operand that is there has one byte or two and ends inside the segment; of one that is not, the place is the first byte past the end
   pub operand-there : (f : Form) (s : List ℕ) (at v n : ℕ) → fetched f s at ≡ got v n → (at < n) × (n ≤ at + 2) × (n ≤ length s)
   pub operand-cut : (f : Form) (s : List ℕ) (at p : ℕ) → fetched f s at ≡ out p → at ≤ length s → p ≡ length s
-  -- none of this is empty: a bench with a session of every kind, an accepted turn of each, and every refusal 11 to 17
+  -- none of this is empty: a bench with a session of every kind, an accepted turn of each, two farms on their own records, and every refusal 11 to 17 and 23
   pub witness : Witness
   -- ======== 2: "Each step is the transition of the documented p-machine, or the one fault that document 01 names for it, with that session's
   -- words and registers as before the step." The machine is the definition of `pmachine`; that the code's turn is its run is the contract of `turn`.
