@@ -49,8 +49,7 @@ pub fn open_for(
     slot: u64,
     length: u64,
     farm: u16,
-    owner: u64,
 ) -> Result<u64, Refusal> {
     let window = range(bench, memory, store, farm)?;
-    bench::open_on(bench, memory, store, slot, length, window, owner)
+    bench::open_on(bench, memory, store, slot, length, window)
 }

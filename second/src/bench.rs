@@ -56,8 +56,7 @@ impl Window {
     }
 }
 
-/// A session record: the slot it names, its region, its window, the desk that
-/// opened it and its session.
+/// A session record: the slot it names, its region, its window and its session.
 #[derive(Clone, Copy, Debug, PartialEq, Eq)]
 pub struct Record {
     pub open: bool,
@@ -67,8 +66,6 @@ pub struct Record {
     /// L
     pub length: u64,
     pub window: Window,
-    /// Request 5 of 02: "Each session gets an owner number at opening"; any number.
-    pub owner: u64,
     pub session: Session,
 }
 
@@ -80,7 +77,6 @@ impl Record {
         base: 0,
         length: 0,
         window: Window::NONE,
-        owner: 0,
         session: Session { sp: 0, m: 0, counter: 0, routine: 0, low: 0, kind: Kind::Ready },
     };
 
@@ -125,12 +121,10 @@ fn loaded_slot(bench: &Bench, number: u64) -> Option<Slot> {
     slot.loaded.then_some(*slot)
 }
 
-/// The record with a number, if there is one and it is open to this desk.  Request
-/// 5 of 02: "A wrong desk gets refusal 12, the same as for a session that isn't
-/// open."
-fn open_record(bench: &Bench, number: u64, desk: u64) -> Option<Record> {
+/// The record with a number, if there is one and it is open.
+fn open_record(bench: &Bench, number: u64) -> Option<Record> {
     let record = bench.records.get(usize::try_from(number).ok()?)?;
-    (record.open && record.owner == desk).then_some(*record)
+    record.open.then_some(*record)
 }
 
 /// The judged segment of a loaded slot.
@@ -266,16 +260,14 @@ pub fn open(
     store: &[u8],
     slot: u64,
     length: u64,
-    owner: u64,
 ) -> Result<u64, Refusal> {
     let window = Window::all(bench.shared);
-    open_on(bench, memory, store, slot, length, window, owner)
+    open_on(bench, memory, store, slot, length, window)
 }
 
 /// "Opening 11, 12, 13, 14, 15."  "Opening gives the lowest gap that fits,
 /// from word S up, and the lowest unused record, sets every word of the region
-/// to zero, and starts routine 1."  Gives the session number.  Whose the other
-/// sessions are does not matter.
+/// to zero, and starts routine 1."  Gives the session number.
 pub fn open_on(
     bench: &mut Bench,
     memory: &mut [u16],
@@ -283,7 +275,6 @@ pub fn open_on(
     slot: u64,
     length: u64,
     window: Window,
-    owner: u64,
 ) -> Result<u64, Refusal> {
     check_11(bench, memory, store)?;
     // "slot [...] number above 15; slot not loaded".  A loaded slot of a sound
@@ -311,7 +302,6 @@ pub fn open_on(
             base,
             length,
             window,
-            owner,
             session: machine::starting_state(&segment, length),
         };
     }
@@ -342,9 +332,8 @@ pub fn turn(
     store: &[u8],
     session: u64,
     k: u64,
-    desk: u64,
 ) -> Result<u64, Refusal> {
-    turn_by(machine::turn, bench, memory, store, session, k, desk)
+    turn_by(machine::turn, bench, memory, store, session, k)
 }
 
 /// A turn by a named runner.
@@ -355,11 +344,10 @@ pub fn turn_by(
     store: &[u8],
     session: u64,
     k: u64,
-    desk: u64,
 ) -> Result<u64, Refusal> {
     check_11(bench, memory, store)?;
-    // "session number above 15; [...] session not open", and a wrong desk
-    let record = open_record(bench, session, desk).ok_or(refusal(12))?;
+    // "session number above 15; [...] session not open"
+    let record = open_record(bench, session).ok_or(refusal(12))?;
     // "a turn of more than 65,535 steps"
     if k > 65_535 {
         return Err(refusal(16));
@@ -391,10 +379,9 @@ pub fn close(
     memory: &mut [u16],
     store: &[u8],
     session: u64,
-    desk: u64,
 ) -> Result<(), Refusal> {
     check_11(bench, memory, store)?;
-    let record = open_record(bench, session, desk).ok_or(refusal(12))?;
+    let record = open_record(bench, session).ok_or(refusal(12))?;
     for word in memory.iter_mut().skip(record.base as usize).take(record.length as usize) {
         *word = 0;
     }

@@ -5,7 +5,6 @@
 
 use crate::bench::{Bench, Record};
 use crate::coverage::Coverage;
-use crate::desk;
 use crate::machine::{Kind, Session};
 use crate::world::{blank_bench, request, Answer, Call, Judged, Request, World};
 use std::io::{self, Write};
@@ -40,16 +39,16 @@ fn session_numbers(session: &Session) -> [u64; 8] {
     [sp, m, counter, routine, low, kind, fault, place]
 }
 
-/// USED SLOT BASE LENGTH FIRST COUNT OWNER
-fn region_numbers(record: &Record) -> [u64; 7] {
-    let Record { slot, base, length, window, owner, .. } = *record;
-    [u64::from(record.open), slot, base, length, window.first, window.count, owner]
+/// USED SLOT BASE LENGTH FIRST COUNT
+fn region_numbers(record: &Record) -> [u64; 6] {
+    let Record { slot, base, length, window, .. } = *record;
+    [u64::from(record.open), slot, base, length, window.first, window.count]
 }
 
 /// "BENCH is of N, S, then of each slot LOADED START LENGTH, then of each
-/// record USED SLOT BASE LENGTH FIRST COUNT OWNER SP M COUNTER ROUTINE LOW KIND
-/// FAULT PLACE"; "a number of the bench is taken as two, its lower and then its
-/// upper 32 bits."
+/// record USED SLOT BASE LENGTH FIRST COUNT SP M COUNTER ROUTINE LOW KIND FAULT
+/// PLACE"; "a number of the bench is taken as two, its lower and then its upper
+/// 32 bits."
 fn bench_digest(bench: &Bench) -> u64 {
     let slots = bench.slots.iter().flat_map(|slot| [u64::from(slot.loaded), slot.start, slot.length]);
     let records = bench
@@ -141,17 +140,15 @@ pub fn request_line(asked: Request) -> String {
         }
         Request::Archive => "A".to_string(),
         Request::Farm(farm) => numbers_after("G", &[farm]),
-        Request::Entry(Call::Open { slot, length, owner }) => {
-            numbers_after("O", &[slot, length, owner])
+        Request::Entry(Call::Open { slot, length }) => numbers_after("O", &[slot, length]),
+        Request::Entry(Call::OpenOn { slot, length, window }) => {
+            numbers_after("W", &[slot, length, window.first, window.count])
         }
-        Request::Entry(Call::OpenOn { slot, length, window, owner }) => {
-            numbers_after("W", &[slot, length, window.first, window.count, owner])
+        Request::Entry(Call::OpenFor { slot, length, farm }) => {
+            numbers_after("F", &[slot, length, farm])
         }
-        Request::Entry(Call::OpenFor { slot, length, farm, owner }) => {
-            numbers_after("F", &[slot, length, farm, owner])
-        }
-        Request::Entry(Call::Turn { session, k, desk }) => numbers_after("T", &[session, k, desk]),
-        Request::Entry(Call::Close { session, desk }) => numbers_after("X", &[session, desk]),
+        Request::Entry(Call::Turn { session, k }) => numbers_after("T", &[session, k]),
+        Request::Entry(Call::Close { session }) => numbers_after("X", &[session]),
     }
 }
 
@@ -174,8 +171,8 @@ fn field_lines(old: &Bench, new: &Bench) -> String {
     }
     for (number, (old, new)) in (0..).zip(old.records.iter().zip(&new.records)) {
         if region_numbers(old) != region_numbers(new) {
-            let [used, slot, base, length, first, count, owner] = region_numbers(new);
-            line("e", &[number, used, slot, base, length, first, count, owner]);
+            let [used, slot, base, length, first, count] = region_numbers(new);
+            line("e", &[number, used, slot, base, length, first, count]);
         }
         if old.session != new.session {
             let [sp, m, counter, routine, low, kind, fault, place] = session_numbers(&new.session);
@@ -397,12 +394,8 @@ impl<Q: Write, A: Write> Writer<Q, A> {
     /// Ask something of the world as it is now.
     pub fn ask(&mut self, asked: Request) -> io::Result<Answer> {
         let about_to = self.coverage.before(asked, &self.world);
-        let met = desk::Met::meet(&self.world.bench, asked);
         let answer = request(&mut self.world, asked);
         self.coverage.after(about_to, asked, &answer, &self.world);
-        if let Some(met) = met {
-            self.coverage.after_desk(&met, &answer);
-        }
         if self.sought == Some(self.coverage.requests) {
             self.found = Some(self.coverage.cases);
         }

@@ -4,7 +4,6 @@
 use crate::bench::Record;
 use crate::cut;
 use crate::depth;
-use crate::desk;
 use crate::generate::{
     can_go_well, possible_outcomes, possible_refusals, Outcome, BACK_TO_UNLINKED, FINISHED, GONE_ON,
     LINK_BEFORE_UNLINKED, UNLINKED, UNLINKED_WHEN_FULL,
@@ -32,8 +31,6 @@ pub struct Coverage {
     pub refusals: BTreeMap<(&'static str, u32), usize>,
     /// Damages by name and whether the bench is sound after it.
     pub damages: BTreeMap<(&'static str, bool), usize>,
-    /// Entries that name a desk, by what they met.
-    pub desks: BTreeMap<desk::Pair, usize>,
     /// Turns of more than one step, by how they ended.
     pub run_ends: BTreeMap<u32, usize>,
     /// What went wrong in making the cases.
@@ -156,7 +153,7 @@ impl Coverage {
     /// To be asked before a request is put; for a turn of one step what it
     /// will meet.
     pub fn before(&self, request: Request, world: &World) -> Option<AboutTo> {
-        let Request::Entry(Call::Turn { session, k: 1, .. }) = request else { return None };
+        let Request::Entry(Call::Turn { session, k: 1 }) = request else { return None };
         let record = world.bench.records.get(usize::try_from(session).ok()?)?;
         let segment = Segment::judge(world.segment_bytes(record.slot)?).ok()?;
         let region = usize::try_from(session).ok().and_then(|number| world.region(number));
@@ -186,25 +183,6 @@ impl Coverage {
             }
             _ => *self.run_ends.entry(came_to(record.session.kind)).or_default() += 1,
         }
-    }
-
-    /// To be told, too, what an entry that names a desk met.
-    pub fn after_desk(&mut self, met: &desk::Met, answer: &Answer) {
-        match met.counted(answer) {
-            Ok(pairs) => {
-                for pair in pairs {
-                    *self.desks.entry(pair).or_default() += 1;
-                }
-            }
-            Err(complaint) => self.complaints.push(complaint),
-        }
-    }
-
-    /// What entries that name a desk could meet and met fewer than `wanted` times.
-    pub fn missing_desks(&self, wanted: usize) -> Vec<String> {
-        let seen = |pair: &desk::Pair| self.desks.get(pair).copied().unwrap_or(0);
-        let few = desk::possible().into_iter().filter(|pair| seen(pair) < wanted);
-        few.map(|pair| format!("{pair:?} seen {} times", seen(&pair))).collect()
     }
 
     pub fn seen(&self, outcome: Outcome) -> usize {
@@ -256,15 +234,7 @@ impl Coverage {
             "{enough} of {} possible step outcomes, each at least {wanted} times\n",
             possible.len()
         );
-        let met = desk::possible().len();
-        let lacking = self.missing_desks(desk::DRAWN);
-        text += &format!(
-            "{} of {met} possible meetings with a desk, each at least {} times\n",
-            met - lacking.len(),
-            desk::DRAWN
-        );
-        let mut missing = self.missing_steps(wanted);
-        missing.extend(lacking);
+        let missing = self.missing_steps(wanted);
         for line in missing.iter().take(20) {
             text += &format!("  missing: {line}\n");
         }
@@ -298,10 +268,6 @@ impl Coverage {
         text += "damage, whether sound after it: how often\n";
         for ((kind, sound), count) in &self.damages {
             text += &format!("  {kind:30} {sound:5}: {count}\n");
-        }
-        text += "entry, session, desk: how often\n";
-        for ((entry, state, desk), count) in &self.desks {
-            text += &format!("  {entry:22} {state:9} {desk:25}: {count}\n");
         }
         text += &format!("steps in an unlinked routine: {}\n", self.in_unlinked);
         text + &format!("longer turns, by end (0 steps used up, 11 finished): {:?}\n", self.run_ends)

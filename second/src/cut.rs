@@ -3,7 +3,6 @@
 //! benches that load and run them, some with records of the time before.
 
 use crate::bench;
-use crate::desk::{self, NOBODY};
 use crate::generate::{put_word, Outcome, Rng, SMALL};
 use crate::machine::{self, Form, Kind};
 use crate::segment::{Segment, Sex};
@@ -124,7 +123,7 @@ fn some_session(rng: &mut Rng) -> u64 {
 }
 
 fn some_turn(rng: &mut Rng) -> Call {
-    Call::Turn { session: some_session(rng), k: rng.pick(&[1, 2, 3, 9, 60, 60], 60), desk: NOBODY }
+    Call::Turn { session: some_session(rng), k: rng.pick(&[1, 2, 3, 9, 60, 60], 60) }
 }
 
 /// A bench with such a segment loaded, the store going on after it, three
@@ -141,19 +140,17 @@ pub fn bench_case(rng: &mut Rng) -> (World, Vec<Call>) {
     let mut start = World { bench, memory: vec![9; 90], store };
     let slot = rng.up_to(15);
     let load = Call::Load { slot, start: lead as u64, length: bytes.len() as u64 };
-    let open = |rng: &mut Rng| Call::Open { slot, length: rng.between(16, 24) as u64, owner: NOBODY };
-    let opened = vec![load, open(rng), open(rng), open(rng)];
-    for call in desk::all_named(&mut rng.beside(), &start, opened) {
+    let open = |rng: &mut Rng| Call::Open { slot, length: rng.between(16, 24) as u64 };
+    for call in [load, open(rng), open(rng), open(rng)] {
         let _ = ask(&mut start, call);
     }
     if rng.chance(1, 2) {
         faulted_before(rng, &mut start);
     }
     let mut calls: Vec<Call> = (0..4).map(|_| some_turn(rng)).collect();
-    calls.push(Call::Close { session: some_session(rng), desk: NOBODY });
+    calls.push(Call::Close { session: some_session(rng) });
     calls.push(open(rng));
     calls.extend([some_turn(rng), some_turn(rng)]);
-    let calls = desk::all_named(&mut rng.beside(), &start, calls);
     (start, calls)
 }
 
@@ -161,8 +158,7 @@ pub fn bench_case(rng: &mut Rng) -> (World, Vec<Call>) {
 /// made before the request, with the instruction as its place, or one byte on.
 fn faulted_before(rng: &mut Rng, world: &mut World) {
     let session = some_session(rng);
-    let desk = desk::owner_of(&world.bench, session);
-    let _ = ask(world, Call::Turn { session, k: 200, desk });
+    let _ = ask(world, Call::Turn { session, k: 200 });
     let Some(record) = world.bench.records.get_mut(session as usize) else { return };
     let counter = record.session.counter;
     if let Kind::Faulted { number: 1, place } = record.session.kind {

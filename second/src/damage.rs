@@ -12,9 +12,8 @@ use crate::world::World;
 /// What is lost where a number is cut to 32 bits.
 const WIDE: u64 = 1 << 32;
 
-/// The damages, in the order of 01's sentence; owners, which it does not name, are
-/// last.
-pub const DAMAGES: [&str; 60] = [
+/// The damages, in the order of 01's sentence.
+pub const DAMAGES: [&str; 57] = [
     "S just at a limit", "S below a window", "S beyond 32,768", "S beyond N", "N beyond 1,048,576",
     "N not the memory's words", "memory one word short", "memory one word long",
     "slot range to the store's end", "slot range beyond the store", "slot start far beyond",
@@ -29,7 +28,6 @@ pub const DAMAGES: [&str; 60] = [
     "window to the end of S", "window empty within S", "window one past S", "window empty past S", "window far beyond",
     "window of an unused record",
     "fault and place at a limit", "fault 1 as recorded before", "fault outside 1..10", "place outside 22..2W",
-    "another owner", "one owner for all", "owner of an unused record",
 ];
 
 /// Those that need a memory of a million words, so that they are used rarely.
@@ -70,7 +68,6 @@ pub fn damage(rng: &mut Rng, world: &mut World, kind: &str) -> Option<bool> {
         .or_else(|| damage_low(rng, world, kind, &target))
         .or_else(|| damage_window(rng, world, kind, &target))
         .or_else(|| damage_fault(rng, world, kind, &target))
-        .or_else(|| damage_owner(rng, world, kind, &target))
 }
 
 fn target(rng: &mut Rng, world: &World) -> Option<Target> {
@@ -470,22 +467,4 @@ fn damage_fault(rng: &mut Rng, world: &mut World, kind: &str, target: &Target) -
         _ => return None,
     }
     Some(!kind.contains("outside"))
-}
-
-/// Owners: any is sound, in a session of any kind and in an unused record.
-fn damage_owner(rng: &mut Rng, world: &mut World, kind: &str, target: &Target) -> Option<bool> {
-    let bit = 1 << rng.up_to(63);
-    let owner = rng.pick(&[0, 1, 15, 65_536, WIDE - 1, WIDE, 1 << 63, u64::MAX, target.record.owner ^ bit], bit);
-    let records = &mut world.bench.records;
-    match kind {
-        "another owner" => {
-            let record = records.get_mut(target.number)?;
-            record.owner = owner;
-            record.session.kind = any_kind(rng, record.session.kind);
-        }
-        "one owner for all" => records.iter_mut().for_each(|record| record.owner = owner),
-        "owner of an unused record" => records.iter_mut().find(|record| !record.open)?.owner = owner,
-        _ => return None,
-    }
-    Some(true)
 }

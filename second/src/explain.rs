@@ -24,9 +24,7 @@ impl Explainer {
         }
         let words = match (letter, numbers.as_slice()) {
             ("b", [at]) => format!("store from byte {at}: {}", parts.nth(1).unwrap_or("")),
-            ("T", [session, k, desk]) => {
-                format!("? desk {desk} turns session {session}, {k} steps{}", self.meets(*session))
-            }
+            ("T", [session, k]) => format!("? turn of session {session}, {k} steps{}", self.meets(*session)),
             _ => set_up(letter, &numbers)
                 .or_else(|| asked(letter, &numbers))
                 .unwrap_or_else(|| line.to_string()),
@@ -72,11 +70,11 @@ fn set_up(letter: &str, numbers: &[u64]) -> Option<String> {
         ("n", [words, shared]) => format!("N = {words}, S = {shared}"),
         ("s", [slot, 0, start, length]) => format!("slot {slot} not loaded ({start}, {length})"),
         ("s", [slot, _, start, length]) => format!("slot {slot} loaded: {length} bytes from {start}"),
-        ("e", [record, 0, slot, base, length, first, count, owner]) => format!(
-            "session {record} not open (slot {slot}, base {base}, L {length}, window of {count} words from {first}, owner {owner})"
+        ("e", [record, 0, slot, base, length, first, count]) => format!(
+            "session {record} not open (slot {slot}, base {base}, L {length}, window of {count} words from {first})"
         ),
-        ("e", [record, _, slot, base, length, first, count, owner]) => format!(
-            "session {record} open on slot {slot}: L = {length}, words from {base}; sees {count} shared words from {first}; of desk {owner}"
+        ("e", [record, _, slot, base, length, first, count]) => format!(
+            "session {record} open on slot {slot}: L = {length}, words from {base}; sees {count} shared words from {first}"
         ),
         ("r", [record, sp, m, counter, routine, low, k, fault, place]) => format!(
             "session {record}: SP {sp}, M {m}, counter {counter}, routine {routine}, lowest SP {low}, {}",
@@ -93,16 +91,16 @@ fn asked(letter: &str, numbers: &[u64]) -> Option<String> {
         ("Q", []) => "? is the bench sound".to_string(),
         ("N", [words, shared]) => format!("? new bench, N = {words}, S = {shared}"),
         ("L", [slot, start, length]) => format!("? load slot {slot}: {length} bytes from {start}"),
-        ("O", [slot, length, owner]) => format!("? desk {owner} opens a session on slot {slot}, L = {length}"),
+        ("O", [slot, length]) => format!("? open a session on slot {slot}, L = {length}"),
         ("A", []) => "? judge the shared words as an archive".to_string(),
         ("G", [farm]) => format!("? where are the records of farm {}", farm % 65_536),
-        ("W", [slot, length, first, count, owner]) => format!(
-            "? desk {owner} opens a session on slot {slot}, L = {length}, that sees {count} shared words from {first}"
+        ("W", [slot, length, first, count]) => format!(
+            "? open a session on slot {slot}, L = {length}, that sees {count} shared words from {first}"
         ),
-        ("F", [slot, length, farm, owner]) => {
-            format!("? desk {owner} opens a session on slot {slot}, L = {length}, for farm {}", farm % 65_536)
+        ("F", [slot, length, farm]) => {
+            format!("? open a session on slot {slot}, L = {length}, for farm {}", farm % 65_536)
         }
-        ("X", [session, desk]) => format!("? desk {desk} closes session {session}"),
+        ("X", [session]) => format!("? close session {session}"),
         _ => return None,
     })
 }

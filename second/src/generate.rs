@@ -7,7 +7,6 @@
 use crate::bench::{self, Bench, Record, Slot};
 use crate::cut::possible_cuts;
 use crate::depth;
-use crate::desk::{self, NOBODY};
 use crate::damage::{damage, DAMAGES, LARGE};
 use crate::machine::{self, Form, Kind, Op, Session};
 use crate::pool::{self, Pool};
@@ -65,12 +64,6 @@ impl Rng {
             return random;
         }
         self.pick(&fit, random)
-    }
-
-    /// Numbers of another sequence, told by where this one stands, which it leaves
-    /// there: what is drawn with them changes nothing that is drawn later.
-    pub fn beside(&self) -> Rng {
-        Rng(Rng(self.0 ^ 0x5EC0_2DDE_5C00_0005).next())
     }
 }
 
@@ -1144,20 +1137,17 @@ pub fn sound_bench(rng: &mut Rng) -> World {
         let most = if openings > 16 { 20 } else { 60 };
         let length = rng.between(16, most) as u64;
         let opening = window::opening(rng, &case, slot, length);
-        let opening = desk::named(&mut rng.beside(), &case.bench, opening);
         let _ = ask(&mut case, opening);
     }
     for _ in 0..rng.up_to(4) {
         let session = rng.up_to(15);
         let k = rng.up_to(30);
-        let desk = desk::owner_of(&case.bench, session);
-        let _ = ask(&mut case, Call::Turn { session, k, desk });
+        let _ = ask(&mut case, Call::Turn { session, k });
         if rng.chance(1, 4) {
-            let _ = ask(&mut case, Call::Close { session, desk });
+            let _ = ask(&mut case, Call::Close { session });
         }
     }
     depth::deepen(rng, &mut case);
-    desk::left_behind(&mut rng.beside(), &mut case);
     case
 }
 
@@ -1169,14 +1159,8 @@ pub fn open_sessions(bench: &Bench) -> Vec<u64> {
     (0..16).zip(bench.records).filter(|(_, record)| record.open).map(|(number, _)| number).collect()
 }
 
-/// An entry to ask for, mostly a sensible one by the right desk.
+/// An entry to ask for, mostly a sensible one.
 pub fn call(rng: &mut Rng, case: &World) -> Call {
-    let drawn = nameless_call(rng, case);
-    desk::named(&mut rng.beside(), &case.bench, drawn)
-}
-
-/// The same, its owner or desk not drawn yet.
-fn nameless_call(rng: &mut Rng, case: &World) -> Call {
     let odd_number = rng.pick(&[15, 16, 17, 256, 65_536, 4_000_000_000, u64::MAX], 16);
     let loaded = loaded_slots(&case.bench);
     let open = open_sessions(&case.bench);
@@ -1212,20 +1196,20 @@ fn nameless_call(rng: &mut Rng, case: &World) -> Call {
                 _ => rng.between(16, 70) as u64,
             };
             let slot = number(rng, &loaded);
-            if rng.chance(1, 2) { Call::Open { slot, length, owner: NOBODY } } else { window::opening(rng, case, slot, length) }
+            if rng.chance(1, 2) { Call::Open { slot, length } } else { window::opening(rng, case, slot, length) }
         }
         5..=10 => {
             let k = rng.pick(&[0, 1, 2, 9, 30, 30, 200, 200, 1_000, 65_536, u64::MAX], 9);
             let k = if rng.chance(1, 60) { 65_535 } else { k };
-            Call::Turn { session: number(rng, &open), k, desk: NOBODY }
+            Call::Turn { session: number(rng, &open), k }
         }
-        11 => Call::Close { session: number(rng, &open), desk: NOBODY },
+        11 => Call::Close { session: number(rng, &open) },
         _ => match rng.up_to(9) {
             0 => Call::New {
                 shared: rng.pick(&[0, 1, 32_768, 32_769, u64::MAX], 0),
                 words: rng.pick(&[0, 1, 32_768, 1_048_576, 1_048_577, u64::MAX], 0),
             },
-            _ => Call::Turn { session: number(rng, &open), k: 1, desk: NOBODY },
+            _ => Call::Turn { session: number(rng, &open), k: 1 },
         },
     }
 }

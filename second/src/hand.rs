@@ -2,15 +2,13 @@
 //! of worlds, requests and the answers expected, in plain numbers, each with
 //! the sentence it comes from.  `cargo test` holds the interpreter to them, and
 //! `set` writes them first.  This file has the table and what its lines are
-//! made of; the lines are in `hand/`.  Those about desks are written later, so
-//! that their turns do not count among the steps that `set` goes by.
+//! made of; the lines are in `hand/`.
 
 mod benches;
 mod case_jump;
 mod constants;
 mod cut;
 mod depth;
-mod desks;
 mod instructions;
 mod marked;
 mod pool;
@@ -23,9 +21,6 @@ use crate::bench::{Record, Slot, Window};
 use crate::machine::{self, Fault, Kind, Session};
 use crate::segment::{Refusal, Routine};
 use crate::world::{blank_bench, Answer, Call, Judged, Request, World, UNWRITTEN};
-
-/// The desk that opens, turns and closes wherever a case is not about desks.
-const DESK: u64 = 6;
 
 /// A request, the answer expected and the whole world after it.
 pub struct Asked {
@@ -45,13 +40,6 @@ pub struct Hand {
 
 /// All cases, in the order of writing.
 pub fn table() -> Vec<Hand> {
-    let mut all = about_the_machine();
-    all.extend(about_desks());
-    all
-}
-
-/// The cases that are written first.
-pub fn about_the_machine() -> Vec<Hand> {
     let mut table = Table { cases: Vec::new(), sentence: "" };
     marked::fill(&mut table);
     segments::fill(&mut table);
@@ -65,13 +53,6 @@ pub fn about_the_machine() -> Vec<Hand> {
     case_jump::fill(&mut table);
     depth::fill(&mut table);
     windows::fill(&mut table);
-    table.cases
-}
-
-/// The cases of request 5 of 02.
-pub fn about_desks() -> Vec<Hand> {
-    let mut table = Table { cases: Vec::new(), sentence: "" };
-    desks::fill(&mut table);
     table.cases
 }
 
@@ -191,16 +172,16 @@ impl Story<'_> {
     fn unsound_everywhere(self) -> Self {
         self.refuses(Call::Load { slot: 0, start: 0, length: 32 }, 11)
             .refuses(Call::Load { slot: 99, start: 1, length: 0 }, 11)
-            .refuses(Call::Open { slot: 2, length: 16, owner: DESK }, 11)
-            .refuses(Call::Open { slot: 99, length: 0, owner: DESK }, 11)
-            .refuses(Call::Turn { session: 0, k: 1, desk: DESK }, 11)
-            .refuses(Call::Turn { session: 99, k: 65_536, desk: DESK }, 11)
-            .refuses(Call::Close { session: 0, desk: DESK }, 11)
-            .refuses(Call::Close { session: 99, desk: DESK }, 11)
-            .refuses(Call::OpenOn { slot: 2, length: 16, window: Window::NONE, owner: DESK }, 11)
-            .refuses(Call::OpenOn { slot: 99, length: 0, window: Window::all(u64::MAX), owner: DESK }, 11)
-            .refuses(Call::OpenFor { slot: 2, length: 16, farm: 9, owner: DESK }, 11)
-            .refuses(Call::OpenFor { slot: 99, length: 0, farm: 1, owner: DESK }, 11)
+            .refuses(Call::Open { slot: 2, length: 16 }, 11)
+            .refuses(Call::Open { slot: 99, length: 0 }, 11)
+            .refuses(Call::Turn { session: 0, k: 1 }, 11)
+            .refuses(Call::Turn { session: 99, k: 65_536 }, 11)
+            .refuses(Call::Close { session: 0 }, 11)
+            .refuses(Call::Close { session: 99 }, 11)
+            .refuses(Call::OpenOn { slot: 2, length: 16, window: Window::NONE }, 11)
+            .refuses(Call::OpenOn { slot: 99, length: 0, window: Window::all(u64::MAX) }, 11)
+            .refuses(Call::OpenFor { slot: 2, length: 16, farm: 9 }, 11)
+            .refuses(Call::OpenFor { slot: 99, length: 0, farm: 1 }, 11)
             .denies(Request::Archive, 11)
             .denies(Request::Farm(9), 11)
     }
@@ -331,7 +312,7 @@ fn at_record(world: &mut World, number: usize) -> &mut Record {
 /// Where the rig's region begins in memory.
 const BASE: usize = 20;
 /// The rig's session and its k = 1.
-const STEP: Call = Call::Turn { session: 1, k: 1, desk: DESK };
+const STEP: Call = Call::Turn { session: 1, k: 1 };
 /// What becomes of it where the bytes of its segment, W = 64, ran out.
 const RAN_OUT: Kind = Kind::Faulted { number: 1, place: 128 };
 
@@ -513,7 +494,7 @@ fn rig_world() -> World {
     (bench.shared, bench.words) = (4, 80);
     bench.slots[3] = Slot { loaded: true, start: 2, length: 128 };
     let window = Window::all(4);
-    let open = |base, length, session| Record { open: true, slot: 3, base, length, window, owner: DESK, session };
+    let open = |base, length, session| Record { open: true, slot: 3, base, length, window, session };
     bench.records[0] = open(4, 16, ready(16, 1, 34, 1));
     bench.records[1] = open(20, 40, ready(40, 20, 34, 1));
     bench.records[2] = open(60, 16, Session { kind: Kind::Finished, ..ready(12, 2, 82, 2) });

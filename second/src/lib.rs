@@ -13,7 +13,6 @@ pub mod coverage;
 pub mod cut;
 pub mod damage;
 pub mod depth;
-pub mod desk;
 pub mod explain;
 pub mod fast;
 pub mod generate;

@@ -2,7 +2,6 @@
 
 use second::cases::Writer;
 use second::coverage::Coverage;
-use second::desk;
 use second::explain::Explainer;
 use second::generate::put_word;
 use second::machine::{self, Kind};
@@ -20,7 +19,7 @@ second, an interpreter of the bench of document 01, written apart
 
   second cases SEED --stdin FILE --stdout FILE
       the committed set: questions to one file, answers to the other;
-      fails if a possible step outcome, refusal or meeting with a desk is missing
+      fails if a possible step outcome or refusal is missing
   second cases SEED --count N --stdin FILE --stdout FILE
       N fresh cases instead
   second cases SEED [--count N] --only K | --request R
@@ -177,7 +176,6 @@ fn verdict(coverage: &Coverage, committed: bool) -> ExitCode {
     if committed {
         let missing = coverage.missing_refusals();
         good &= missing.is_empty() && coverage.missing_steps(WANTED).is_empty();
-        good &= coverage.missing_desks(desk::DRAWN).is_empty();
         for line in missing {
             eprintln!("  missing: {line}");
         }

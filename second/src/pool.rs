@@ -3,7 +3,6 @@
 //! put at and beside their limits, and benches that run reports with a pool.
 
 use crate::bench;
-use crate::desk::{self, NOBODY};
 use crate::generate::{put_word, valid_segment, Outcome, Rng, Wish, GONE_ON, LIVELY};
 use crate::machine::{self, Decoded, Op, Session};
 use crate::segment::{Segment, Sex};
@@ -423,8 +422,8 @@ pub fn bench_case(rng: &mut Rng) -> (World, Vec<Call>) {
     let bench = bench::new_bench(shared, words).unwrap_or_else(|_| blank_bench());
     let start = World { bench, memory: vec![rng.pick(&[0, 9], 0); words as usize], store };
     let slot = rng.up_to(15);
-    let open = |rng: &mut Rng| Call::Open { slot, length: rng.between(20, 70) as u64, owner: NOBODY };
-    let turn = |rng: &mut Rng, session| Call::Turn { session, k: rng.pick(&[1, 3, 9, 40, 200, 200], 1), desk: NOBODY };
+    let open = |rng: &mut Rng| Call::Open { slot, length: rng.between(20, 70) as u64 };
+    let turn = |rng: &mut Rng, session| Call::Turn { session, k: rng.pick(&[1, 3, 9, 40, 200, 200], 1) };
     let calls = vec![
         Call::Load { slot, start: lead as u64, length: bytes.len() as u64 },
         open(rng),
@@ -432,11 +431,10 @@ pub fn bench_case(rng: &mut Rng) -> (World, Vec<Call>) {
         open(rng),
         turn(rng, 1),
         turn(rng, 0),
-        Call::Close { session: rng.up_to(1), desk: NOBODY },
+        Call::Close { session: rng.up_to(1) },
         open(rng),
         turn(rng, 1),
         turn(rng, 0),
     ];
-    let calls = desk::all_named(&mut rng.beside(), &start, calls);
     (start, calls)
 }

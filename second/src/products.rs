@@ -20,7 +20,7 @@ const LENGTH: usize = LAST_PRODUCT + 2 * FACTORS.len() * WORDS;
 const STEPS: usize = (2 * FACTORS.len() * 3 + 4) * WORDS;
 
 /// What each case asks.
-pub const TURN: Call = Call::Turn { session: 0, k: STEPS as u64, desk: 0 };
+pub const TURN: Call = Call::Turn { session: 0, k: STEPS as u64 };
 
 /// The worlds of all cases, each with the first of its words.
 pub fn cases() -> impl Iterator<Item = (u16, World)> {
@@ -36,7 +36,7 @@ fn opened(segment: &[u8], first: u16) -> World {
     bench.words = length;
     bench.slots[0] = Slot { loaded: true, start: 0, length: segment.len() as u64 };
     bench.records[0] =
-        Record { open: true, slot: 0, base: 0, length, window: Window::NONE, owner: 0, session };
+        Record { open: true, slot: 0, base: 0, length, window: Window::NONE, session };
     let mut memory = vec![0; LENGTH];
     memory[IN_TURN] = first;
     World { bench, memory, store: segment.to_vec() }

@@ -56,11 +56,11 @@ impl Reader {
                     (place.loaded, place.start, place.length) = (*loaded != 0, *start, *length);
                 }
             }
-            ("e", &[record, used, slot, base, length, first, count, owner]) => {
+            ("e", &[record, used, slot, base, length, first, count]) => {
                 if let Some(place) = bench.records.get_mut(record as usize) {
                     (place.open, place.slot) = (used != 0, slot);
                     (place.base, place.length) = (base, length);
-                    (place.window, place.owner) = (Window { first, count }, owner);
+                    place.window = Window { first, count };
                 }
             }
             ("r", [record, sp, m, counter, routine, low, kind, fault, place]) => {
@@ -112,15 +112,13 @@ fn asked(letter: &str, numbers: &[u64]) -> Option<Request> {
         ("L", &[slot, start, length]) => Request::Entry(Call::Load { slot, start, length }),
         ("A", []) => Request::Archive,
         ("G", &[farm]) => Request::Farm(farm),
-        ("O", &[slot, length, owner]) => Request::Entry(Call::Open { slot, length, owner }),
-        ("W", &[slot, length, first, count, owner]) => {
-            Request::Entry(Call::OpenOn { slot, length, window: Window { first, count }, owner })
+        ("O", &[slot, length]) => Request::Entry(Call::Open { slot, length }),
+        ("W", &[slot, length, first, count]) => {
+            Request::Entry(Call::OpenOn { slot, length, window: Window { first, count } })
         }
-        ("F", &[slot, length, farm, owner]) => {
-            Request::Entry(Call::OpenFor { slot, length, farm, owner })
-        }
-        ("T", &[session, k, desk]) => Request::Entry(Call::Turn { session, k, desk }),
-        ("X", &[session, desk]) => Request::Entry(Call::Close { session, desk }),
+        ("F", &[slot, length, farm]) => Request::Entry(Call::OpenFor { slot, length, farm }),
+        ("T", &[session, k]) => Request::Entry(Call::Turn { session, k }),
+        ("X", &[session]) => Request::Entry(Call::Close { session }),
         _ => return None,
     })
 }

@@ -8,13 +8,12 @@ use crate::coverage::Came;
 use crate::cut;
 use crate::damage::{damage, with_room_for_a_copy, DAMAGES, LARGE};
 use crate::depth;
-use crate::desk;
 use crate::generate::{
     self, beside_a_limit, call, loading_case, possible_outcomes, run_case, sequence_case,
     sound_bench, valid_segment, with_damage, Outcome, Rng, SequenceCase, BACK_TO_UNLINKED, FINISHED,
     GONE_ON, LINK_BEFORE_UNLINKED, ORDINARY, SMALL, UNLINKED, UNLINKED_WHEN_FULL,
 };
-use crate::hand::{about_desks, about_the_machine, Hand};
+use crate::hand::table;
 use crate::machine::Kind;
 use crate::pool;
 use crate::products;
@@ -52,28 +51,24 @@ fn drawn(outcome: Outcome) -> usize {
 const DRAWN_OF_POOLS: usize = 15;
 /// The same of reads and stores at the window's ends.
 const DRAWN_OF_WINDOWS: usize = 12;
-/// Benches of several desks at least.
-const DESK_BENCHES: usize = 120;
 
 /// A writer with the randomness and the number of cases wanted.
 pub struct Set<'a, Q: Write, A: Write> {
     pub writer: &'a mut Writer<Q, A>,
     rng: Rng,
     most: u64,
-    /// Cases worked by hand so far.
-    hand: usize,
-    /// The steps that they have.
+    /// The steps that the cases worked by hand have.
     by_hand: BTreeMap<Outcome, usize>,
 }
 
 impl<'a, Q: Write, A: Write> Set<'a, Q, A> {
     pub fn new(writer: &'a mut Writer<Q, A>, seed: u64) -> Self {
-        Set { writer, rng: Rng(seed), most: u64::MAX, hand: 0, by_hand: BTreeMap::new() }
+        Set { writer, rng: Rng(seed), most: u64::MAX, by_hand: BTreeMap::new() }
     }
 
     /// The committed set.
     pub fn committed(&mut self) -> io::Result<()> {
-        self.worked_by_hand(about_the_machine())?;
+        self.worked_by_hand()?;
         self.by_hand = self.writer.coverage.steps.clone();
         self.writer.remark("single steps: every first byte, every outcome possible for it")?;
         self.every_step()?;
@@ -102,9 +97,6 @@ impl<'a, Q: Write, A: Write> Set<'a, Q, A> {
         }
         self.writer.remark("new benches with numbers at limits")?;
         self.new_benches()?;
-        self.worked_by_hand(about_desks())?;
-        self.writer.remark("benches of several desks, and requests of each")?;
-        self.every_desk()?;
         self.writer.remark("products: words at limits by every word, in both orders")?;
         self.products()
     }
@@ -146,21 +138,18 @@ impl<'a, Q: Write, A: Write> Set<'a, Q, A> {
                 33..=44 => self.some_damages(8)?,
                 45..=63 => self.run()?,
                 64..=71 => self.loading()?,
-                72..=77 => self.archive_bench()?,
-                78..=85 => self.desk_bench(&desk::possible())?,
-                86..=97 => self.sequence()?,
+                72..=79 => self.archive_bench()?,
+                80..=97 => self.sequence()?,
                 _ => self.new_bench()?,
             }
         }
         Ok(())
     }
 
-    /// Hand-worked cases, each sentence before its cases.
-    fn worked_by_hand(&mut self, cases: Vec<Hand>) -> io::Result<()> {
+    /// The table of hand-worked cases, each sentence before its cases.
+    fn worked_by_hand(&mut self) -> io::Result<()> {
         let mut sentence = "";
-        for case in cases {
-            self.hand += 1;
-            let number = self.hand;
+        for (number, case) in (1..).zip(table()) {
             if case.sentence != sentence {
                 sentence = case.sentence;
                 self.writer.remark(sentence)?;
@@ -285,9 +274,7 @@ impl<'a, Q: Write, A: Write> Set<'a, Q, A> {
     fn step(&mut self, place: &Place, next: World) -> io::Result<usize> {
         let weight = 1 + next.memory.len() / 20_000;
         self.writer.case(next)?;
-        let session = place.session as u64;
-        let desk = desk::owner_of(&self.writer.world().bench, session);
-        self.ask(Request::Entry(Call::Turn { session, k: 1, desk }))?;
+        self.ask(Request::Entry(Call::Turn { session: place.session as u64, k: 1 }))?;
         Ok(weight)
     }
 
@@ -458,18 +445,17 @@ impl<'a, Q: Write, A: Write> Set<'a, Q, A> {
             return Ok(());
         }
         let session = place.session as u64;
-        let desk = desk::owner_of(&place.world.bench, session);
         self.writer.case(place.world)?;
         let turns = self.rng.pick(&[1, 1, 2, 5], 1);
         for _ in 0..turns {
             let k = self.rng.pick(&[0, 1, 2, 9, 100, 400, case.k, case.k, case.k, case.k], 9);
-            self.ask(Request::Entry(Call::Turn { session, k, desk }))?;
+            self.ask(Request::Entry(Call::Turn { session, k }))?;
         }
         let record = self.writer.world().bench.records.get(place.session);
         let ended = record.is_some_and(|record| record.session.kind != Kind::Ready);
         if ended && self.rng.chance(1, 3) {
             // a session that is not ready gives 0
-            self.ask(Request::Entry(Call::Turn { session, k: 5, desk }))?;
+            self.ask(Request::Entry(Call::Turn { session, k: 5 }))?;
         }
         Ok(())
     }
@@ -523,47 +509,6 @@ impl<'a, Q: Write, A: Write> Set<'a, Q, A> {
         for _ in 0..3 {
             let request = window::some_request(&mut self.rng, self.writer.world());
             self.ask(request)?;
-        }
-        Ok(())
-    }
-
-    /// Every meeting with a desk as often as wanted besides all cases before.
-    fn every_desk(&mut self) -> io::Result<()> {
-        let before = self.writer.coverage.desks.clone();
-        let mut lacking = desk::possible();
-        for count in 0..3_000 {
-            let seen = &self.writer.coverage.desks;
-            let drawn = |pair: &desk::Pair| seen.get(pair).unwrap_or(&0) - before.get(pair).unwrap_or(&0);
-            lacking.retain(|pair| drawn(pair) < desk::DRAWN);
-            if lacking.is_empty() && count >= DESK_BENCHES {
-                break;
-            }
-            let hoped = if lacking.is_empty() { desk::possible() } else { lacking.clone() };
-            self.desk_bench(&hoped)?;
-        }
-        Ok(())
-    }
-
-    /// Requests of several desks on one bench; such as may meet what is hoped for.
-    fn desk_bench(&mut self, hoped: &[desk::Pair]) -> io::Result<()> {
-        if self.full() {
-            return Ok(());
-        }
-        let start = desk::bench_case(&mut self.rng);
-        self.writer.case(start)?;
-        for _ in 0..self.rng.pick(&[4, 8, 14], 8) {
-            let now = self.writer.world();
-            let mut next = desk::some_request(&mut self.rng, now);
-            for _ in 0..40 {
-                if desk::Met::meet(&now.bench, next).is_some_and(|met| met.hopes_for(hoped)) {
-                    break;
-                }
-                next = desk::some_request(&mut self.rng, now);
-            }
-            self.ask(next)?;
-            if self.rng.chance(1, 6) {
-                self.ask(Request::Sound)?;
-            }
         }
         Ok(())
     }

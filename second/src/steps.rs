@@ -5,7 +5,6 @@
 use crate::bench::{Record, Slot, Window};
 use crate::coverage::{AboutTo, Came};
 use crate::cut;
-use crate::desk;
 use crate::generate::{
     operand_size, put_word, registers, session_case, telling_factor, telling_integer, telling_mark,
     telling_operands, telling_word, Outcome, Rng, RunCase, View,
@@ -83,7 +82,6 @@ pub fn placed(rng: &mut Rng, case: &RunCase) -> Place {
         base: memory.len() as u64,
         length: case.region.len() as u64,
         window,
-        owner: desk::some_owner(&mut rng.beside()),
         session: case.session,
     };
     if let Some(place) = bench.records.get_mut(session) {
@@ -126,8 +124,7 @@ impl Neighbours {
         let base = memory.len() as u64;
         let window = window::some_window(rng, self.shared);
         if let Some(record) = records.get_mut(self.number) {
-            let owner = desk::some_owner(&mut rng.beside());
-            *record = Record { open: true, slot: self.slot, base, length, window, owner, session };
+            *record = Record { open: true, slot: self.slot, base, length, window, session };
         }
         memory.resize((base + length) as usize, rng.pick(&[0, 0, 7], 0));
     }

@@ -4,7 +4,6 @@
 //! routine.
 
 use crate::bench;
-use crate::desk::{self, NOBODY};
 use crate::generate::{put_word, valid_segment, Rng, Wish, LIVELY};
 use crate::segment::{Segment, Sex};
 use crate::world::{blank_bench, Call, World};
@@ -112,8 +111,8 @@ pub fn bench_case(rng: &mut Rng) -> (World, Vec<Call>) {
     let bench = bench::new_bench(shared, words).unwrap_or_else(|_| blank_bench());
     let start = World { bench, memory: vec![rng.pick(&[0, 9], 0); words as usize], store };
     let slot = rng.up_to(15);
-    let open = |rng: &mut Rng| Call::Open { slot, length: rng.between(16, 70) as u64, owner: NOBODY };
-    let turn = |rng: &mut Rng, session| Call::Turn { session, k: rng.pick(&[1, 1, 2, 3, 9, 200], 1), desk: NOBODY };
+    let open = |rng: &mut Rng| Call::Open { slot, length: rng.between(16, 70) as u64 };
+    let turn = |rng: &mut Rng, session| Call::Turn { session, k: rng.pick(&[1, 1, 2, 3, 9, 200], 1) };
     let calls = vec![
         Call::Load { slot, start: lead as u64, length: bytes.len() as u64 },
         open(rng),
@@ -122,11 +121,10 @@ pub fn bench_case(rng: &mut Rng) -> (World, Vec<Call>) {
         turn(rng, 1),
         turn(rng, 0),
         turn(rng, 0),
-        Call::Close { session: rng.up_to(1), desk: NOBODY },
+        Call::Close { session: rng.up_to(1) },
         open(rng),
         turn(rng, 1),
     ];
-    let calls = desk::all_named(&mut rng.beside(), &start, calls);
     (start, calls)
 }
 

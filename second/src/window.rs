@@ -5,7 +5,6 @@
 
 use crate::archive::RECORD_WORDS;
 use crate::bench::{self, Window};
-use crate::desk::{self, NOBODY};
 use crate::generate::{loaded_slots, open_sessions, put_word, Outcome, Rng, SMALL};
 use crate::machine::{Decoded, Kind, Op, Session};
 use crate::segment::Sex;
@@ -297,15 +296,12 @@ pub fn some_farm(rng: &mut Rng, world: &World) -> u64 {
     u64::from(farm) + rng.pick(&[0, 0, 0, 0, 0, 0, 0, 0, 65_536, 1 << 32], 0)
 }
 
-/// An opening of one of the three sorts, its owner not drawn yet.
+/// An opening of one of the three sorts.
 pub fn opening(rng: &mut Rng, world: &World, slot: u64, length: u64) -> Call {
     match rng.up_to(4) {
-        0 | 1 => Call::OpenFor { slot, length, farm: some_farm(rng, world), owner: NOBODY },
-        2 | 3 => {
-            let window = named_window(rng, world.bench.shared.min(32_768));
-            Call::OpenOn { slot, length, window, owner: NOBODY }
-        }
-        _ => Call::Open { slot, length, owner: NOBODY },
+        0 | 1 => Call::OpenFor { slot, length, farm: some_farm(rng, world) },
+        2 | 3 => Call::OpenOn { slot, length, window: named_window(rng, world.bench.shared.min(32_768)) },
+        _ => Call::Open { slot, length },
     }
 }
 
@@ -379,17 +375,10 @@ pub fn some_request(rng: &mut Rng, now: &World) -> Request {
             let length = rng.between(16, 24) as u64;
             let slot = if rng.chance(1, 9) { rng.up_to(17) } else { slot };
             let length = if rng.chance(1, 9) { rng.pick(&[15, 900, 32_769], 15) } else { length };
-            let opening = opening(rng, now, slot, length);
-            Request::Entry(desk::named(&mut rng.beside(), &now.bench, opening))
+            Request::Entry(opening(rng, now, slot, length))
         }
-        6..=8 => {
-            let turn = Call::Turn { session, k: rng.pick(&[1, 9, 60, 300, 300], 60), desk: NOBODY };
-            Request::Entry(desk::named(&mut rng.beside(), &now.bench, turn))
-        }
-        _ => {
-            let closing = Call::Close { session, desk: NOBODY };
-            Request::Entry(desk::named(&mut rng.beside(), &now.bench, closing))
-        }
+        6..=8 => Request::Entry(Call::Turn { session, k: rng.pick(&[1, 9, 60, 300, 300], 60) }),
+        _ => Request::Entry(Call::Close { session }),
     }
 }
 

@@ -55,13 +55,13 @@ impl World {
 pub enum Call {
     New { shared: u64, words: u64 },
     Load { slot: u64, start: u64, length: u64 },
-    Open { slot: u64, length: u64, owner: u64 },
+    Open { slot: u64, length: u64 },
     /// An opening that names its window.
-    OpenOn { slot: u64, length: u64, window: Window, owner: u64 },
+    OpenOn { slot: u64, length: u64, window: Window },
     /// An opening for a farm of the archive; modulo 65,536.
-    OpenFor { slot: u64, length: u64, farm: u64, owner: u64 },
-    Turn { session: u64, k: u64, desk: u64 },
-    Close { session: u64, desk: u64 },
+    OpenFor { slot: u64, length: u64, farm: u64 },
+    Turn { session: u64, k: u64 },
+    Close { session: u64 },
 }
 
 /// Ask for one entry.  The number answered is the session opened, the steps
@@ -76,19 +76,15 @@ pub fn ask(world: &mut World, call: Call) -> Result<u64, Refusal> {
         Call::Load { slot, start, length } => {
             bench::load(bench, memory, store, slot, start, length).map(|()| 0)
         }
-        Call::Open { slot, length, owner } => {
-            bench::open(bench, memory, store, slot, length, owner)
+        Call::Open { slot, length } => bench::open(bench, memory, store, slot, length),
+        Call::OpenOn { slot, length, window } => {
+            bench::open_on(bench, memory, store, slot, length, window)
         }
-        Call::OpenOn { slot, length, window, owner } => {
-            bench::open_on(bench, memory, store, slot, length, window, owner)
+        Call::OpenFor { slot, length, farm } => {
+            archive::open_for(bench, memory, store, slot, length, farm as u16)
         }
-        Call::OpenFor { slot, length, farm, owner } => {
-            archive::open_for(bench, memory, store, slot, length, farm as u16, owner)
-        }
-        Call::Turn { session, k, desk } => bench::turn(bench, memory, store, session, k, desk),
-        Call::Close { session, desk } => {
-            bench::close(bench, memory, store, session, desk).map(|()| 0)
-        }
+        Call::Turn { session, k } => bench::turn(bench, memory, store, session, k),
+        Call::Close { session } => bench::close(bench, memory, store, session).map(|()| 0),
     }
 }
 

@@ -47,9 +47,7 @@ fn asked() -> &'static Asked {
 
 fn note(asked: &mut Asked, world: &World, request: Request) {
     let turn = match request {
-        Request::Entry(Call::Turn { session, k, desk }) if is_of(world, session, desk) => {
-            Some((session as usize, k))
-        }
+        Request::Entry(Call::Turn { session, k }) if session < 16 => Some((session as usize, k)),
         _ => None,
     };
     if let Some((session, 1)) = turn {
@@ -63,11 +61,6 @@ fn note(asked: &mut Asked, world: &World, request: Request) {
     }
 }
 
-/// Whether the desk may turn the session, as far as its owner goes.
-fn is_of(world: &World, session: u64, desk: u64) -> bool {
-    world.bench.records.get(session as usize).is_some_and(|record| record.owner == desk)
-}
-
 /// What a turn of one step meets, if the session can take it.
 fn step(world: &World, number: usize) -> Option<Step> {
     let record = &world.bench.records[number];
@@ -79,7 +72,7 @@ fn step(world: &World, number: usize) -> Option<Step> {
     let form = code.first().and_then(|first| instruction(*first)).map(|row| row.form);
     let size = size(form, code);
     let mut after = world.clone();
-    ask(&mut after, Call::Turn { session: number as u64, k: 1, desk: record.owner }).ok()?;
+    ask(&mut after, Call::Turn { session: number as u64, k: 1 }).ok()?;
     Some(Step {
         there: code.iter().copied().take(size).collect(),
         size: size as u64,
@@ -471,8 +464,7 @@ fn records_of_before_are_left_alone() {
             record.open && is_of_before(&record.session, end)
         };
         let mut after = world.clone();
-        let desk = world.bench.records[number].owner;
-        let answer = ask(&mut after, Call::Turn { session: number as u64, k, desk });
+        let answer = ask(&mut after, Call::Turn { session: number as u64, k });
         if of_before(number) && (1..=65_535).contains(&k) {
             assert_eq!(answer, Ok(0));
             assert!(after == *world);

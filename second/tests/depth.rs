@@ -81,7 +81,7 @@ fn note(asked: &mut Asked, world: &World, request: Request) {
     let mut after = world.clone();
     let Ok(value) = ask(&mut after, call) else { return };
     match call {
-        Call::Turn { session, k, .. } => {
+        Call::Turn { session, k } => {
             asked.others.push(others(world, &after, session as usize));
             match k {
                 1 => asked.steps.extend(step(world, &after, session as usize)),
@@ -89,7 +89,7 @@ fn note(asked: &mut Asked, world: &World, request: Request) {
             }
         }
         Call::Open { .. } => asked.openings.extend(change(world, &after, value as usize)),
-        Call::Close { session, .. } => asked.closings.extend(change(world, &after, session as usize)),
+        Call::Close { session } => asked.closings.extend(change(world, &after, session as usize)),
         _ => {}
     }
 }

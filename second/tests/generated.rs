@@ -3,7 +3,6 @@
 
 use second::bench;
 use second::cases::Writer;
-use second::desk;
 use second::fast;
 use second::generate::{
     call, loading_case, possible_outcomes, run_case, segment_case, sequence_case, sound_bench, Rng,
@@ -46,8 +45,7 @@ fn fast_agrees_on_single_steps() {
             let hoped = rng.pick(&possible, (None, 1));
             let Some((mut world, _)) = steps::draw(&mut rng, &place, &place.world, hoped) else { continue };
             let mut quick = world.clone();
-            let desk = world.bench.records[place.session].owner;
-            let turn = Call::Turn { session: place.session as u64, k: 1, desk };
+            let turn = Call::Turn { session: place.session as u64, k: 1 };
             assert_eq!(ask(&mut world, turn), Ok(1));
             assert_eq!(ask_fast(&mut quick, turn), Ok(1));
             assert_eq!(world, quick);
@@ -139,9 +137,9 @@ fn a_turned_segment_says_the_same_and_turns_back() {
 /// An entry by the fast machine.
 fn ask_fast(world: &mut World, call: Call) -> Result<u64, second::segment::Refusal> {
     match call {
-        Call::Turn { session, k, desk } => {
+        Call::Turn { session, k } => {
             let World { bench, memory, store } = world;
-            bench::turn_by(fast::turn, bench, memory, store, session, k, desk)
+            bench::turn_by(fast::turn, bench, memory, store, session, k)
         }
         other => ask(world, other),
     }
@@ -221,7 +219,6 @@ fn the_committed_set_is_complete_and_its_lines_say_what_was_meant() {
         assert!(coverage.complaints.is_empty(), "{:#?}", coverage.complaints);
         assert!(coverage.missing_steps(WANTED).is_empty(), "{:#?}", coverage.missing_steps(WANTED));
         assert!(coverage.missing_refusals().is_empty(), "{:#?}", coverage.missing_refusals());
-        assert!(coverage.missing_desks(desk::DRAWN).is_empty(), "{:#?}", coverage.missing_desks(desk::DRAWN));
         answered(&questions, &answers);
     }
 }

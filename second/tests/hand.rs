@@ -11,9 +11,9 @@ use std::collections::BTreeSet;
 
 /// The same request with the fast machine.
 fn request_fast(world: &mut World, asked: Request) -> Answer {
-    let Request::Entry(Call::Turn { session, k, desk }) = asked else { return request(world, asked) };
+    let Request::Entry(Call::Turn { session, k }) = asked else { return request(world, asked) };
     let World { bench, memory, store } = world;
-    match bench::turn_by(fast::turn, bench, memory, store, session, k, desk) {
+    match bench::turn_by(fast::turn, bench, memory, store, session, k) {
         Ok(done) => Answer::Done(done),
         Err(refusal) => Answer::Refused(refusal),
     }

@@ -36,18 +36,18 @@ fn note(asked: &mut Asked, world: &World, request: Request) {
         Request::Judge => asked.judged.push(world.store.clone()),
         Request::TurnOver(output) => asked.turned.push((world.store.clone(), output)),
         Request::Sound if world.memory.len() < 100_000 => asked.sound.push(world.clone()),
-        Request::Entry(Call::Turn { session, k: 1, desk }) => {
-            let Some(step) = step(world, session, desk) else { return };
+        Request::Entry(Call::Turn { session, k: 1 }) => {
+            let Some(step) = step(world, session) else { return };
             match step.decoded.instruction.op {
                 Op::PushPoolWords => asked.loads.push(step),
                 Op::CaseJump => asked.cases.push(step),
                 _ => {}
             }
         }
-        Request::Entry(Call::Turn { session, k: k @ 2..=5_000, desk }) => {
+        Request::Entry(Call::Turn { session, k: k @ 2..=5_000 }) => {
             let mut world = world.clone();
             for _ in 0..k.min(400) {
-                let Some(step) = step(&world, session, desk) else { return };
+                let Some(step) = step(&world, session) else { return };
                 match step.decoded.instruction.op {
                     Op::PushPoolWords => asked.in_runs[0] += 1,
                     Op::CaseJump => asked.in_runs[1] += 1,
@@ -79,7 +79,7 @@ struct Step {
     after: World,
 }
 
-fn step(world: &World, session: u64, desk: u64) -> Option<Step> {
+fn step(world: &World, session: u64) -> Option<Step> {
     let number = usize::try_from(session).ok()?;
     let record = world.bench.records.get(number)?;
     if !record.open || record.session.kind != Kind::Ready || !world.is_sound() {
@@ -91,7 +91,7 @@ fn step(world: &World, session: u64, desk: u64) -> Option<Step> {
     let most_first = bytes[12] == 0;
     let pool = word(&bytes, most_first, 7);
     let mut after = world.clone();
-    ask(&mut after, Call::Turn { session, k: 1, desk }).ok()?;
+    ask(&mut after, Call::Turn { session, k: 1 }).ok()?;
     Some(Step {
         decoded,
         words: bytes.len() as i64 / 2,

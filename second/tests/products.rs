@@ -37,13 +37,13 @@ fn every_product_stands_in_memory() {
     let mut firsts = Vec::new();
     for (first, start) in cases() {
         assert!(start.is_sound());
-        let Call::Turn { session, k, desk } = TURN else { panic!("no turn") };
+        let Call::Turn { session, k } = TURN else { panic!("no turn") };
         let mut plain = start.clone();
         assert_eq!(ask(&mut plain, TURN), Ok(k));
         assert!(plain.memory == memory_after(first, right), "words from {first}");
         let mut quick = start;
         let World { bench, memory, store } = &mut quick;
-        assert_eq!(bench::turn_by(fast::turn, bench, memory, store, session, k, desk), Ok(k));
+        assert_eq!(bench::turn_by(fast::turn, bench, memory, store, session, k), Ok(k));
         assert!(quick == plain, "words from {first}");
         firsts.push(usize::from(first));
     }

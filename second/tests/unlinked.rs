@@ -38,18 +38,17 @@ fn note(asked: &mut Asked, world: &World, request: Request) {
             asked.turned.push(world.store.clone());
         }
         Request::Sound if world.memory.len() < 100_000 => asked.sound.push(world.clone()),
-        Request::Entry(Call::Turn { session, k: 1, desk }) if is_call(world, session, desk) => {
+        Request::Entry(Call::Turn { session, k: 1 }) if is_call(world, session) => {
             asked.steps.push((world.clone(), session as usize));
         }
         _ => {}
     }
 }
 
-/// Whether a sound bench's session is about to call, and this desk may turn it.
-fn is_call(world: &World, session: u64, desk: u64) -> bool {
+/// Whether a sound bench's session is about to call.
+fn is_call(world: &World, session: u64) -> bool {
     let Some(record) = world.bench.records.get(session as usize) else { return false };
     record.open
-        && record.owner == desk
         && record.session.kind == Kind::Ready
         && world.is_sound()
         && world
@@ -294,8 +293,7 @@ fn what_a_call_meets_decides_its_fault() {
     for (world, session) in &asked().steps {
         let Some(met) = met(world, *session) else { continue };
         let mut after = world.clone();
-        let desk = world.bench.records[*session].owner;
-        let turn = Call::Turn { session: *session as u64, k: 1, desk };
+        let turn = Call::Turn { session: *session as u64, k: 1 };
         assert_eq!(second::world::ask(&mut after, turn), Ok(1));
         let fault = match after.bench.records[*session].session.kind {
             Kind::Faulted { number, .. } => number,

@@ -118,14 +118,14 @@ fn note(asked: &mut Asked, world: &World, put: Request) {
 fn entry(asked: &mut Asked, world: &World, after: &World, call: Call, answer: &Answer) {
     let window = |world: &World, session: u64| world.bench.records[session as usize].window;
     match (call, answer) {
-        (Call::Turn { session, k, .. }, Answer::Done(done)) => {
+        (Call::Turn { session, k }, Answer::Done(done)) => {
             let change = (window(world, session), window(after, session), world.bench.shared);
             asked.turns.push(change);
             if (k, *done) == (1, 1) {
                 asked.reads.extend(read(world, after, session as usize));
             }
         }
-        (Call::Close { session, .. }, Answer::Done(_)) => {
+        (Call::Close { session }, Answer::Done(_)) => {
             asked.closings.push((window(world, session), window(after, session), world.bench.shared));
         }
         _ => asked.openings.extend(opening(world, after, call, answer)),
@@ -442,9 +442,9 @@ fn has_gap(world: &World, length: u64) -> bool {
 
 fn opening(world: &World, after: &World, call: Call, answer: &Answer) -> Option<Opening> {
     let (slot, length, named, farm) = match call {
-        Call::Open { slot, length, .. } => (slot, length, None, None),
-        Call::OpenOn { slot, length, window, .. } => (slot, length, Some(window), None),
-        Call::OpenFor { slot, length, farm, .. } => (slot, length, None, Some(farm)),
+        Call::Open { slot, length } => (slot, length, None, None),
+        Call::OpenOn { slot, length, window } => (slot, length, Some(window), None),
+        Call::OpenFor { slot, length, farm } => (slot, length, None, Some(farm)),
         _ => return None,
     };
     let shared = shared_of(world);
@@ -830,8 +830,7 @@ fn words_outside_a_window_change_no_answer() {
         }
         other.bench.shared = first + count;
         assert!(one.is_sound() && other.is_sound());
-        let desk = one.bench.records[number].owner;
-        let call = Call::Turn { session: number as u64, k: rng.pick(&[1, 9, 200], 9), desk };
+        let call = Call::Turn { session: number as u64, k: rng.pick(&[1, 9, 200], 9) };
         let (mut one, mut other) = (one, other);
         assert_eq!(ask(&mut one, call), ask(&mut other, call));
         assert_eq!(one.bench.records[number], other.bench.records[number]);

@@ -65,18 +65,18 @@ module _ (store : List ℕ) (w : World) where
         go passed h = g h
         go (refused n p) h = r n p h
 
-    module _ (slot len owner : ℕ) (f : Found) (e : f ≡ range_answer store farm w) where
-      pub opens_there : (v : Window) {y : Result} → f ≡ At v → y ≡ window_open_of store slot len v owner w → y ≡ farm_open_of store slot len farm owner w
+    module _ (slot len : ℕ) (f : Found) (e : f ≡ range_answer store farm w) where
+      pub opens_there : (v : Window) {y : Result} → f ≡ At v → y ≡ window_open_of store slot len v w → y ≡ farm_open_of store slot len farm w
       unfolding farm_open_of
       opens_there v {y} =
-          ruled_range f e (λ x. x ≡ At v → y ≡ window_open_of store slot len v owner w → y ≡ farm_open_of store slot len farm owner w)
+          ruled_range f e (λ x. x ≡ At v → y ≡ window_open_of store slot len v w → y ≡ farm_open_of store slot len farm w)
           (λ n p h q. let z : ◌≡◌ {A = ℕ} 0 1 = cc in absurd (omega arith))
           (λ h q u. let z : v ≡ farm_range farm w = cc in accepts _ _ _ h (rw z at u))
 
-      pub refuses_there : (n p : ℕ) {y : Result} → f ≡ Refused n p → y ≡ refused_at n p w → y ≡ farm_open_of store slot len farm owner w
+      pub refuses_there : (n p : ℕ) {y : Result} → f ≡ Refused n p → y ≡ refused_at n p w → y ≡ farm_open_of store slot len farm w
       unfolding farm_open_of
       refuses_there n p {y} =
-          ruled_range f e (λ x. x ≡ Refused n p → y ≡ refused_at n p w → y ≡ farm_open_of store slot len farm owner w)
+          ruled_range f e (λ x. x ≡ Refused n p → y ≡ refused_at n p w → y ≡ farm_open_of store slot len farm w)
           (λ m q h t u.
           let zn : m ≡ n = cc in
           let zp : q ≡ p = cc in

@@ -26,9 +26,9 @@ found_by (refused n p) v = Refused n p
 unfoldable pub range_answer : List ℕ → ℕ → World → Found
 range_answer store farm w = found_by (ruling (archive_checks store w)) (farm_range farm w)
 
--- "and opens a session that sees only that range", for its owner: 11, 23, then the opening's 12, 13, 14, 15
+-- "and opens a session that sees only that range": 11, 23, then the opening's 12, 13, 14, 15
 abbrev pub farm_checks : List ℕ → ℕ → ℕ → ℕ → World → List Check
 farm_checks store slot len farm w = archive_checks store w ++ window_checks store slot len (farm_range farm w) w
 
-unfoldable pub farm_open_of : List ℕ → ℕ → ℕ → ℕ → ℕ → World → Result
-farm_open_of store slot len farm owner w = refusing (archive_checks store w) w (window_open_of store slot len (farm_range farm w) owner w)
+unfoldable pub farm_open_of : List ℕ → ℕ → ℕ → ℕ → World → Result
+farm_open_of store slot len farm w = refusing (archive_checks store w) w (window_open_of store slot len (farm_range farm w) w)

@@ -55,7 +55,7 @@ pub fn range(b: Bench, memory: &[u16], store: &[u8], farm: u16) -> Found
     Found::At(range_in(&memory[..s], farm))
 }
 
-// A session of len words on a slot, which sees the farm's records and is the owner's. Refusals 11, 23, 12, 13, 14, 15.
+// A session of len words on a slot, which sees the farm's records. Refusals 11, 23, 12, 13, 14, 15.
 pub fn open_farm(
     b: Bench,
     memory: &mut [u16],
@@ -63,13 +63,12 @@ pub fn open_farm(
     slot: usize,
     len: usize,
     farm: u16,
-    owner: usize,
 ) -> Out
-    ensures { result_of result memory.new ≡ farm_open_of store.now slot len farm owner (world_of b memory.old) }
+    ensures { result_of result memory.new ≡ farm_open_of store.now slot len farm (world_of b memory.old) }
 {
     let found = range(b, memory, store, farm);
     match found {
-        Found::At(window) => open_window(b, memory, store, slot, len, window, owner),
+        Found::At(window) => open_window(b, memory, store, slot, len, window),
         Found::Refused(number, place) => refuse(b, number, place),
     }
 }

@@ -114,9 +114,8 @@ fn of_session(h: u64, se: Session) -> u64 {
     let d = digest::both_halves(c, se.len as u64);
     let e = digest::both_halves(d, se.window.first as u64);
     let f = digest::both_halves(e, se.window.len as u64);
-    let g = digest::both_halves(f, se.owner as u64);
     let cpu = se.cpu;
-    of_cpu(g, cpu)
+    of_cpu(f, cpu)
 }
 
 fn of_cpu(h: u64, cpu: Cpu) -> u64 {

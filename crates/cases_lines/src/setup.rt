@@ -110,7 +110,6 @@ fn region(se: Session, v: [u64; NUMBERS]) -> Session {
     out.base = v[3] as usize;
     out.len = v[4] as usize;
     out.window = window(v[5], v[6]);
-    out.owner = v[7] as usize;
     out
 }
 

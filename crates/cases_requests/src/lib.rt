@@ -176,11 +176,11 @@ fn entered(b: Bench, memory: &mut [u16], store: &[u8], what: u8, v: [u64; NUMBER
     match what {
         b'N' => renewed(b, i, n),
         b'L' => bench::load(b, memory, store, i, n, v[2] as usize),
-        b'O' => bench::open_session(b, memory, store, i, n, v[2] as usize),
-        b'W' => bench::open_window(b, memory, store, i, n, window(v[2], v[3]), v[4] as usize),
-        b'F' => archive::open_farm(b, memory, store, i, n, farm(v[2]), v[3] as usize),
-        b'T' => bench::turn(b, memory, store, v[2] as usize, i, v[1]),
-        _ => bench::close(b, memory, store, n, i),
+        b'O' => bench::open_session(b, memory, store, i, n),
+        b'W' => bench::open_window(b, memory, store, i, n, window(v[2], v[3])),
+        b'F' => archive::open_farm(b, memory, store, i, n, farm(v[2])),
+        b'T' => bench::turn(b, memory, store, i, v[1]),
+        _ => bench::close(b, memory, store, i),
     }
 }
 

@@ -42,15 +42,11 @@ use Rattle.archive_records.proofs.Order.{accepted_is}
 use Rattle.archive_records.proofs.Ranges.{all_and_only, words_are, empty_at_zero, inside}
 use Rattle.promises.proofs.Closings.{closed}
 use Rattle.isolation.proofs.Theorem.{isolation}
-use Rattle.secrecy.specs.Secrecy.{DifferOnly as Differ, SeesAlike as Sees}
-use Rattle.secrecy.proofs.Theorem.{secrecy}
-use Rattle.secrecy.proofs.Channels.{channels}
-use Rattle.demands.specs.Demands.{OnlyThere, Opened, DifferOnly, SeesAlike, Demands}
+use Rattle.demands.specs.Demands.{OnlyThere, Opened, Demands}
 use Rattle.demands.proofs.Cases.{cases, walks}
 use Rattle.demands.proofs.Calls.{calls}
 use Rattle.demands.proofs.Arithmetic.{arithmetic}
 use Rattle.demands.proofs.Marked.{cases_hold}
-use Rattle.demands.proofs.Desks.{desk_open, desk_turn, desk_close}
 use Rattle.demands.proofs.Lowest.{least_of, opening_at, least_of_all, lowest_since}
 use Rattle.demands.proofs.Windows.{window_read, window_only}
 use Rattle.demands.proofs.Farms.{archive_falls, farm_done, other_farms, other_farms_opened}
@@ -61,22 +57,9 @@ use Rattle.demands.proofs.Witness.{witness}
 only_there : (w v : World) (i a len : ℕ) → Zeroed w v a len → OnlyRecord w v i → OnlyThere w v i a len
 only_there w v i a len z o = search
 
-opening_done : (store : List ℕ) (w : World) (slot len : ℕ) (v : Window) (owner i : ℕ) → Sound store w
-    → (window_open_of store slot len v owner w).answer ≡ Done i → Opened store slot len v owner w (window_open_of store slot len v owner w).world i
-opening_done store w slot len v owner i g e = let o = opened_is store w slot len v owner g i e in search only_there
-
--- secrecy's two relations of benches are the record's
-differ_in : (d : ℕ) (w v : World) → DifferOnly d w v → Differ d w v
-differ_in d w v h = search
-
-differ_out : (d : ℕ) (w v : World) → Differ d w v → DifferOnly d w v
-differ_out d w v h = search
-
-sees_in : (d : ℕ) (w v : World) → SeesAlike d w v → Sees d w v
-sees_in d w v h = search
-
-sees_out : (d : ℕ) (w v : World) → Sees d w v → SeesAlike d w v
-sees_out d w v h = search
+opening_done : (store : List ℕ) (w : World) (slot len : ℕ) (v : Window) (i : ℕ) → Sound store w → (window_open_of store slot len v w).answer ≡ Done i
+    → Opened store slot len v w (window_open_of store slot len v w).world i
+opening_done store w slot len v i g e = let o = opened_is store w slot len v g i e in search only_there
 
 judged_is : (s : List ℕ) → judged s ≡ ruling (checks s)
 unfolding judged
@@ -111,10 +94,10 @@ demands =
       output_rest = λ s o. (writes s o).rest;
       new_sound = new_sound;
       stays_sound = stays_sound;
-      fifteen = fifteen;
-      opened = opening_done;
-      older_opening = λ store w slot len owner. refl;
-      window_refused = thirteen;
+      fifteen = λ store w slot len v g. fifteen store w slot len v g;
+      opened = λ store w slot len v i g e. opening_done store w slot len v i g e;
+      older_opening = λ store w slot len. refl;
+      window_refused = λ store w slot len v g. thirteen store w slot len v g;
       window_sound =
           λ store w i v g u. (
             λ h. outside_unsound store w g i u v
@@ -128,13 +111,10 @@ demands =
       range_empty = empty_at_zero;
       range_inside = inside;
       farm_opened =
-          λ store w slot len farm owner i g e.
-          let f = farm_done store w slot len farm owner i e in
-          (f.0, rw f.1 (opening_done store w slot len (range_of (shared_of w) farm) owner i g (ap (λ (r : Result). r.answer) (sym f.1) ∙ e)));
-      closed = λ store w desk i g u. let o = closed store w desk i g u in (o.0, search only_there);
-      desk_open = desk_open;
-      desk_turn = desk_turn;
-      desk_close = desk_close;
+          λ store w slot len farm i g e.
+          let f = farm_done store w slot len farm i e in
+          (f.0, rw f.1 (opening_done store w slot len (range_of (shared_of w) farm) i g (ap (λ (r : Result). r.answer) (sym f.1) ∙ e)));
+      closed = λ store w i g u. let o = closed store w i g u in (o.0, search only_there);
       one_answer = one_answer;
       operand_there = λ f s at v n e. rw e at (reads f s at);
       operand_cut = λ f s at p e. let l : Lies s at (out p) = rw e at (reads f s at) in l.3;
@@ -205,7 +185,6 @@ demands =
       once = once.both_rules;
       turns_stay_sound = isolation.stays_sound;
       shared_kept = isolation.shared_kept;
-      owner_kept = isolation.owner_kept;
       in_turn = isolation.in_turn;
       one_after_another = isolation.one_after_another;
       one_after_another_answers = isolation.one_after_another_answers;
@@ -214,17 +193,8 @@ demands =
       on_its_own = λ store ts w g i u. let o = isolation.on_its_own store ts w g i u in search;
       lowest_since = lowest_since;
       not_open = isolation.not_open;
-      wrong_desk = isolation.wrong_desk;
       two_runs = λ store store' ts us w w' i j g h m a. isolation.two_runs store store' ts us w w' i j g h m search;
       two_ends = λ store store' ts us w w' i j g h m a. let o = isolation.two_ends store store' ts us w w' i j g h m search in search;
       other_farms = other_farms;
       other_farms_opened = other_farms_opened;
-      same_told = λ store d qs us w v g h k e. secrecy.same_answers store d qs us w v g h (differ_in d w v k) e;
-      still_differ = λ store d qs us w v g h k e. differ_out d _ _ (secrecy.still_differ store d qs us w v g h (differ_in d w v k) e);
-      learned = λ store d q w v l m n k. secrecy.exactly store d q w v l m n (sees_in d w v k);
-      only_openings = λ store d qs us w v g h k e o. secrecy.only_openings store d qs us w v g h (sees_in d w v k) e o;
-      still_sees = λ store d qs us w v g h k e o. sees_out d _ _ (secrecy.still_sees store d qs us w v g h (sees_in d w v k) e o);
-      untouched = λ store d q w g n. sees_out d _ _ (secrecy.untouched store d q w g n);
-      differ_sees = λ store d w v g h k. sees_out d w v (secrecy.differ_sees store d w v g h (differ_in d w v k));
-      channels = channels;
     }

@@ -21,7 +21,6 @@ use Rattle.entry.specs.declared.Answer.TheVariants.{Done}
 use Rattle.entry.specs.Answer.{Result}
 use Rattle.entry.specs.Entries.{window_open_of}
 use Rattle.entry.proofs.Refusing.{by_checks}
-use Rattle.entry.proofs.Replaced.{words_long as own-long}
 use Rattle.archive_records.specs.Records.{records_in, never_falls, accepted, first_fall, range_of, records_of}
 use Rattle.archive_records.proofs.Order.{never_at, first_fall_lem}
 use Rattle.archive.specs.Archive.{archive_checks, farm_open_of}
@@ -30,6 +29,7 @@ use Rattle.promises.specs.Words.{Opens}
 use Rattle.promises.proofs.Requests.{stays_sound}
 use Rattle.promises.proofs.Openings.{opened_is}
 use Rattle.isolation.specs.Isolation.{Turn, after, Agree}
+use Rattle.isolation.proofs.Acts.{own_long}
 use Rattle.isolation.proofs.Theorem.{isolation}
 use Rattle.demands.specs.Demands.{OfFarm, NoOtherFarm, FirstFall}
 
@@ -48,38 +48,34 @@ archive_falls a whole fallen =
 
 -- ---- an opening for a farm that is done
 
-pub farm_done : (store : List ℕ) (w : World) (slot len farm owner i : ℕ) → (farm_open_of store slot len farm owner w).answer ≡ Done i
-    → (accepted (shared_of w) ≡ true) × (farm_open_of store slot len farm owner w ≡ window_open_of store slot len (range_of (shared_of w) farm) owner w)
+pub farm_done : (store : List ℕ) (w : World) (slot len farm i : ℕ) → (farm_open_of store slot len farm w).answer ≡ Done i
+    → (accepted (shared_of w) ≡ true) × (farm_open_of store slot len farm w ≡ window_open_of store slot len (range_of (shared_of w) farm) w)
 unfolding farm_open_of
-farm_done store w slot len farm owner i =
-    by_checks (λ r. r.answer ≡ Done i → (accepted (shared_of w) ≡ true) × (r ≡ window_open_of store slot len (range_of (shared_of w) farm) owner w))
-    (archive_checks store w) w _
+farm_done store w slot len farm i =
+    by_checks (λ r. r.answer ≡ Done i → (accepted (shared_of w) ≡ true) × (r ≡ window_open_of store slot len (range_of (shared_of w) farm) w)) (archive_checks store w) w _
     (λ n p e. let z : ◌≡◌ {A = ℕ} 0 1 = cc in absurd (omega arith))
     (λ p e. (p.1.0, refl))
 
 -- ---- what a session that was just opened has: its record, its segment, zeros, and the shared words as they were
 
-module _ (store : List ℕ) (w : World) (slot len : ℕ) (v : Window) (owner i : ℕ) (g : Sound store w) (e : (window_open_of store slot len v owner w).answer ≡ Done i) where
+module _ (store : List ℕ) (w : World) (slot len : ℕ) (v : Window) (i : ℕ) (g : Sound store w) (e : (window_open_of store slot len v w).answer ≡ Done i) where
   abbrev new : World
-  new = (window_open_of store slot len v owner w).world
+  new = (window_open_of store slot len v w).world
 
   abbrev code : List ℕ
   code = code_of store (slot_at w.bench.slots slot)
 
-  o : Opens store slot len v owner w new i
-  o = opened_is store w slot len v owner g i e
+  o : Opens store slot len v w new i
+  o = opened_is store w slot len v g i e
 
   sound : Sound store new
-  sound = stays_sound store (opening_on slot len v owner) w g
+  sound = stays_sound store (opening_on slot len v) w g
 
   used : (session_at new i).used ≡ true
   used = ap (λ (se : Session). se.used) o.made
 
   window : (session_at new i).window ≡ v
   window = ap (λ (se : Session). se.window) o.made
-
-  owned : (session_at new i).owner ≡ owner
-  owned = ap (λ (se : Session). se.owner) o.made
 
   cpu : (session_at new i).cpu ≡ start_of code len
   cpu = ap (λ (se : Session). se.cpu) o.made
@@ -118,7 +114,7 @@ module _ (store : List ℕ) (w : World) (slot len : ℕ) (v : Window) (owner i :
   fits = (opened store new sound i used).inside
 
   words_long : length (words_of new (session_at new i)) ≡ len
-  words_long = own-long store new sound i used ∙ size
+  words_long = own_long store i 0 new sound used ∙ size
 
   words_zero : (k : ℕ) → k < len → get_or (words_of new (session_at new i)) k 0 ≡ 0
   words_zero k h =
@@ -133,7 +129,6 @@ module _ (farm : ℕ) (store store' : List ℕ) (w w' : World) (i j : ℕ) where
       record {
         open_here = a.open_here;
         open_there = a.open_there;
-        owner = a.owner;
         cpu = a.cpu;
         words = a.words;
         code = a.code;
@@ -163,7 +158,6 @@ other_farms farm store store' ts us w w' i j g h m a =
           record {
             open_here = end.open_here;
             open_there = end.open_there;
-            owner = end.owner;
             range_here = still_range farm store ts w i g a.open_here a.range_here;
             range_there = still_range farm store' us w' j h a.open_there a.range_there;
             records =
@@ -178,69 +172,67 @@ other_farms farm store store' ts us w w' i j g h m a =
 
 -- ---- two openings
 
-module _ (farm : ℕ) (store store' : List ℕ) (w w' : World) (slot slot' len owner i j : ℕ) (g : Sound store w) (h : Sound store' w')
+module _ (farm : ℕ) (store store' : List ℕ) (w w' : World) (slot slot' len i j : ℕ) (g : Sound store w) (h : Sound store' w')
     (segment : code_of store (slot_at w.bench.slots slot) ≡ code_of store' (slot_at w'.bench.slots slot'))
     (records : records_of (shared_of w) farm ≡ records_of (shared_of w') farm)
-    (e : (window_open_of store slot len (range_of (shared_of w) farm) owner w).answer ≡ Done i)
-    (f : (window_open_of store' slot' len (range_of (shared_of w') farm) owner w').answer ≡ Done j) where
+    (e : (window_open_of store slot len (range_of (shared_of w) farm) w).answer ≡ Done i)
+    (f : (window_open_of store' slot' len (range_of (shared_of w') farm) w').answer ≡ Done j) where
   abbrev here : World
-  here = (window_open_of store slot len (range_of (shared_of w) farm) owner w).world
+  here = (window_open_of store slot len (range_of (shared_of w) farm) w).world
 
   abbrev there : World
-  there = (window_open_of store' slot' len (range_of (shared_of w') farm) owner w').world
+  there = (window_open_of store' slot' len (range_of (shared_of w') farm) w').world
 
   kept_here : shared_of here ≡ shared_of w
-  kept_here = kept store w slot len (range_of (shared_of w) farm) owner i g e
+  kept_here = kept store w slot len (range_of (shared_of w) farm) i g e
 
   kept_there : shared_of there ≡ shared_of w'
-  kept_there = kept store' w' slot' len (range_of (shared_of w') farm) owner j h f
+  kept_there = kept store' w' slot' len (range_of (shared_of w') farm) j h f
 
   long_here : length (words_of here (session_at here i)) ≡ len
-  long_here = words_long store w slot len (range_of (shared_of w) farm) owner i g e
+  long_here = words_long store w slot len (range_of (shared_of w) farm) i g e
 
   opened_alike : OfFarm farm store here i store' there j
   opened_alike =
       record {
-        open_here = used store w slot len (range_of (shared_of w) farm) owner i g e;
-        open_there = used store' w' slot' len (range_of (shared_of w') farm) owner j h f;
-        owner =
-            owned store w slot len (range_of (shared_of w) farm) owner i g e ∙ sym (owned store' w' slot' len (range_of (shared_of w') farm) owner j h f);
-        range_here = window store w slot len (range_of (shared_of w) farm) owner i g e ∙ ap (λ (a : List ℕ). range_of a farm) (sym kept_here);
-        range_there = window store' w' slot' len (range_of (shared_of w') farm) owner j h f ∙ ap (λ (a : List ℕ). range_of a farm) (sym kept_there);
+        open_here = used store w slot len (range_of (shared_of w) farm) i g e;
+        open_there = used store' w' slot' len (range_of (shared_of w') farm) j h f;
+        range_here = window store w slot len (range_of (shared_of w) farm) i g e ∙ ap (λ (a : List ℕ). range_of a farm) (sym kept_here);
+        range_there = window store' w' slot' len (range_of (shared_of w') farm) j h f ∙ ap (λ (a : List ℕ). range_of a farm) (sym kept_there);
         records =
             ap (λ (l : List ℕ). records_of l farm) kept_here
             ∙ records
             ∙ sym (ap (λ (l : List ℕ). records_of l farm) kept_there);
         cpu =
-            cpu store w slot len (range_of (shared_of w) farm) owner i g e
+            cpu store w slot len (range_of (shared_of w) farm) i g e
             ∙ ap (λ (s : List ℕ). start_of s len) segment
-            ∙ sym (cpu store' w' slot' len (range_of (shared_of w') farm) owner j h f);
+            ∙ sym (cpu store' w' slot' len (range_of (shared_of w') farm) j h f);
         words =
             ext_get_or 0 (words_of here (session_at here i)) (words_of there (session_at there j))
-            (long_here ∙ sym (words_long store' w' slot' len (range_of (shared_of w') farm) owner j h f))
+            (long_here ∙ sym (words_long store' w' slot' len (range_of (shared_of w') farm) j h f))
             (λ k q. let lt : k < len = rw long_here at q in
-            words_zero store w slot len (range_of (shared_of w) farm) owner i g e k lt
-            ∙ sym (words_zero store' w' slot' len (range_of (shared_of w') farm) owner j h f k lt));
+            words_zero store w slot len (range_of (shared_of w) farm) i g e k lt
+            ∙ sym (words_zero store' w' slot' len (range_of (shared_of w') farm) j h f k lt));
         code =
-            runs store w slot len (range_of (shared_of w) farm) owner i g e
+            runs store w slot len (range_of (shared_of w) farm) i g e
             ∙ segment
-            ∙ sym (runs store' w' slot' len (range_of (shared_of w') farm) owner j h f);
+            ∙ sym (runs store' w' slot' len (range_of (shared_of w') farm) j h f);
       }
 
   pub opened_no_other : (ts us : List Turn) → mine i ts ≡ mine j us → NoOtherFarm farm store store' ts us here there i j
   opened_no_other ts us m =
-      other_farms farm store store' ts us here there i j (sound store w slot len (range_of (shared_of w) farm) owner i g e)
-      (sound store' w' slot' len (range_of (shared_of w') farm) owner j h f) m opened_alike
+      other_farms farm store store' ts us here there i j (sound store w slot len (range_of (shared_of w) farm) i g e)
+      (sound store' w' slot' len (range_of (shared_of w') farm) j h f) m opened_alike
 
 pub other_farms_opened :
-    (farm : ℕ) (store store' : List ℕ) (ts us : List Turn) (w w' : World) (slot slot' len owner i j : ℕ) → Sound store w → Sound store' w'
+    (farm : ℕ) (store store' : List ℕ) (ts us : List Turn) (w w' : World) (slot slot' len i j : ℕ) → Sound store w → Sound store' w'
     → code_of store (slot_at w.bench.slots slot) ≡ code_of store' (slot_at w'.bench.slots slot')
     → records_of (shared_of w) farm ≡ records_of (shared_of w') farm
-    → (farm_open_of store slot len farm owner w).answer ≡ Done i → (farm_open_of store' slot' len farm owner w').answer ≡ Done j → mine i ts ≡ mine j us
-    → NoOtherFarm farm store store' ts us (farm_open_of store slot len farm owner w).world (farm_open_of store' slot' len farm owner w').world i j
-other_farms_opened farm store store' ts us w w' slot slot' len owner i j g h segment records e f m =
-    let a = (farm_done store w slot len farm owner i e).1 in
-    let b = (farm_done store' w' slot' len farm owner j f).1 in
+    → (farm_open_of store slot len farm w).answer ≡ Done i → (farm_open_of store' slot' len farm w').answer ≡ Done j → mine i ts ≡ mine j us
+    → NoOtherFarm farm store store' ts us (farm_open_of store slot len farm w).world (farm_open_of store' slot' len farm w').world i j
+other_farms_opened farm store store' ts us w w' slot slot' len i j g h segment records e f m =
+    let a = (farm_done store w slot len farm i e).1 in
+    let b = (farm_done store' w' slot' len farm j f).1 in
     rw (a, b)
-    (opened_no_other farm store store' w w' slot slot' len owner i j g h segment records (ap (λ (r : Result). r.answer) (sym a) ∙ e)
+    (opened_no_other farm store store' w w' slot slot' len i j g h segment records (ap (λ (r : Result). r.answer) (sym a) ∙ e)
     (ap (λ (r : Result). r.answer) (sym b) ∙ f) ts us m)

@@ -3,7 +3,6 @@ pub mod Tables
 pub mod Lowest
 pub mod Windows
 pub mod Farms
-pub mod Desks
 pub mod Witness
 pub mod Marked
 pub mod Steps

@@ -20,7 +20,7 @@ use Rattle.entry.specs.Entries.{window_open_of}
 use Rattle.promises.specs.Requests.{opening_on}
 use Rattle.promises.proofs.Requests.{stays_sound}
 use Rattle.promises.proofs.Openings.{opened_is}
-use Rattle.isolation.specs.Isolation.{Turn, steps_of}
+use Rattle.isolation.specs.Isolation.{Turn, after, steps_of}
 use Rattle.isolation.proofs.Theorem.{isolation}
 use Rattle.demands.specs.Demands.{CameTo, LeastOf, LeastOfAll, LowestSince}
 
@@ -54,14 +54,14 @@ module _ (store : List ℕ) (w : World) (i : ℕ) (ts : List Turn) where
   since g u is =
       let own = (isolation.on_its_own store ts w g i u).registers in
       let end = ap (λ (se : Session). se.cpu.regs.lowest) own in
-      let h = fresh_lowest (code_at store w i) (window_at w i) (steps_of (session_at w i).owner (mine i ts)) (state_of (state_at w i)) is in
+      let h = fresh_lowest (code_at store w i) (window_at w i) (steps_of (mine i ts)) (state_of (state_at w i)) is in
       record { each = λ k m. rw end (h.each k m); steps = h.steps; most = h.most; there = h.there ∙ sym end }
 
-pub lowest_since : (store : List ℕ) (w : World) (slot len : ℕ) (v : Window) (owner i : ℕ) (ts : List Turn) → Sound store w
-    → (window_open_of store slot len v owner w).answer ≡ Done i
-    → LowestSince store ts (window_open_of store slot len v owner w).world i
+pub lowest_since : (store : List ℕ) (w : World) (slot len : ℕ) (v : Window) (i : ℕ) (ts : List Turn) → Sound store w
+    → (window_open_of store slot len v w).answer ≡ Done i
+    → LowestSince store ts (window_open_of store slot len v w).world i
 unfolding start_of starting
-lowest_since store w slot len v owner i ts g e =
-    let made = (opened_is store w slot len v owner g i e).made in
-    since store (window_open_of store slot len v owner w).world i ts (stays_sound store (opening_on slot len v owner) w g) (ap (λ (se : Session). se.used) made)
+lowest_since store w slot len v i ts g e =
+    let made = (opened_is store w slot len v g i e).made in
+    since store (window_open_of store slot len v w).world i ts (stays_sound store (opening_on slot len v) w g) (ap (λ (se : Session). se.used) made)
     (ap (λ (se : Session). se.cpu.regs.lowest) made ∙ sym (ap (λ (se : Session). se.cpu.regs.sp) made))

@@ -25,7 +25,7 @@ use Rattle.session.specs.Session.{cpu_ok}
 use Rattle.sound.specs.Bench.{World, session_at, words_of, code_at, window_at}
 use Rattle.sound.specs.Sound.{Sound}
 use Rattle.sound.proofs.Facts.{opened, parts, limits}
-use Rattle.entry.proofs.Replaced.{words_long}
+use Rattle.isolation.proofs.Acts.{own_long}
 
 -- ---- one step
 
@@ -150,7 +150,7 @@ module _ (store : List ℕ) (w : World) (g : Sound store w) (i : ℕ) (u : (sess
       let f = opened store w g i u in
       let r = regs_of (session_at w i).cpu.regs in
       let own = words_of w (session_at w i) in
-      let long = words_long store w g i u in
+      let long = own_long store i 0 w g u in
       let seen = window_at w i in
       let t = ranged (code_at store w i) (session_at w i).len r (kind_of (session_at w i).cpu.kind) f.cpu_ok_lem in
       let o' : 32768 ≤ get_or own r.sp 0 + n = rw (← e) o in

@@ -39,11 +39,11 @@ made_sound = new_sound store (replicate 56 0) 56 4 made refl
 ran_sound : Sound store ran
 unfolding ran opened loaded
 ran_sound =
-    stays_sound store (turning 1 2 9) _
-    (stays_sound store (turning 2 1 1) _
-    (stays_sound store (opening 0 16 1) _
-    (stays_sound store (opening 1 16 2) _
-    (stays_sound store (opening 0 16 1) _
+    stays_sound store (turning 2 9) _
+    (stays_sound store (turning 1 1) _
+    (stays_sound store (opening 0 16) _
+    (stays_sound store (opening 1 16) _
+    (stays_sound store (opening 0 16) _
     (stays_sound store (loading 1 32 32) _
     (stays_sound store (loading 0 0 32) _ made_sound))))))
 
@@ -67,13 +67,6 @@ witness =
       turn_faulted = refl;
       small_run = refl;
       small_words = refl;
-      two_desks = (refl, refl);
-      owners_turns = (refl, refl);
-      others_turns = (refl, refl);
-      owners_closings = (refl, refl);
-      others_closings = (refl, refl);
-      twelve_first = (refl, refl);
-      nobodys = (refl, refl, refl);
       unlinked_loads = (refl, refl);
       unlinked_call = refl;
       twin_call = refl;

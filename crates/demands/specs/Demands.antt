@@ -22,7 +22,7 @@ use Rattle.plan.specs.Answer.{regs_of}
 use Rattle.pmachine.specs.Pushed.{IsLdc, IsXjp, SamePool}
 use Rattle.turning.specs.Turn.{framed, position, swap_at, turned, turn_ruling, output_of}
 use Rattle.interleave.specs.Interleave.{By, mine, one_by_one, Below}
-use Rattle.sound.specs.Below.{no_cpu, start_of, cpu_of, run_of, count_of}
+use Rattle.sound.specs.Below.{start_of, cpu_of, run_of, count_of}
 use Rattle.sound.specs.declared.Window.{Window}
 use Rattle.sound.specs.Bench.{no_session, code_of, slot_at, World, world_of, session_at, shared_of, words_of, code_at, window_at, state_at, at_cpu, at_window, at_sessions}
 use Rattle.sound.specs.Sound.{limits_ok, inside_shared, sound_b, Sound}
@@ -30,15 +30,12 @@ use Rattle.entry.specs.declared.Out.{Out}
 use Rattle.entry.specs.declared.Answer.{Answer}
 use Rattle.entry.specs.declared.Answer.TheVariants.{Done, Refused}
 use Rattle.entry.specs.Answer.{answer_ruling, Result, result_of}
-use Rattle.entry.specs.Entries.{new_of, loaded_at, len_ok, record_for, open_of, window_open_of, fresh, owned_by, open_for, turn_of, close_of}
+use Rattle.entry.specs.Entries.{new_of, loaded_at, len_ok, record_for, open_of, window_open_of, fresh, open_at, close_of}
 use Rattle.archive_records.specs.Records.{records_in, farm_at, accepted, first_fall, range_of, records_of, own_records}
 use Rattle.archive.specs.Archive.{farm_open_of}
 use Rattle.promises.specs.Requests.{Request, asked, checks_for}
 use Rattle.promises.specs.Words.{InRegion, Free, GapFrom}
-use Rattle.isolation.specs.Isolation.{Asked, Turn, after, answers_of, owners_only, steps_of, reported, reports_of}
-use Rattle.secrecy.specs.Asks.{Ask, leaves, by_another, turn_of_another, without, told_but, left_by}
-use Rattle.secrecy.specs.Secrecy.{held_at, Learned, but_openings}
-use Rattle.secrecy.specs.Channels.{Channels}
+use Rattle.isolation.specs.Isolation.{Turn, after, answers_of, steps_of, reported, reports_of}
 use Rattle.demands.specs.Cases.{Cases, Calls, Walks}
 use Rattle.demands.specs.Arithmetic.{Leaves}
 use Rattle.demands.specs.Marked.{All, marked_cases}
@@ -56,15 +53,15 @@ pub record OnlyThere (w v : World) (i a len : ℕ) : Type 0 where
   pub same_others : (j : ℕ) → (j ≡ i → ⊥) → session_at v j ≡ session_at w j
 
 -- "Opening gives the lowest gap that fits, from word S up, and the lowest unused record, sets every word of the region to zero, and
--- starts routine 1." Request 7: its record has the window that was named; request 5, "Each session gets an owner number at opening": and its owner
-pub record Opened (store : List ℕ) (slot len : ℕ) (view : Window) (owner : ℕ) (w v : World) (i : ℕ) : Type 0 where
+-- starts routine 1." Request 7: its record has the window that was named
+pub record Opened (store : List ℕ) (slot len : ℕ) (view : Window) (w v : World) (i : ℕ) : Type 0 where
   pub place : ℕ
   pub gap : GapFrom w len place
   pub lowest_gap : (b : ℕ) → b < place → GapFrom w len b → ⊥
   pub low : i ≤ 15
   pub unused : (session_at w i).used ≡ false
   pub lowest_record : (j : ℕ) → j < i → (session_at w j).used ≡ true
-  pub made : session_at v i ≡ fresh slot place len view owner (start_of (code_of store (slot_at w.bench.slots slot)) len)
+  pub made : session_at v i ≡ fresh slot place len view (start_of (code_of store (slot_at w.bench.slots slot)) len)
   pub only : OnlyThere w v i place len
 
 -- "Closing zeroes the region and frees region and record."
@@ -131,48 +128,40 @@ pub record OtherSex (s t : List ℕ) : Type 0 where
   pub twice : turned t ≡ s
 
 -- ---- session i after the turns ts: what the documented machine makes of its own state, on its own region, its own code and the shared words of its
--- window, in as many steps as its own turns come to: those that name its owner
+-- window, in as many steps as its own turns come to
 
 pub record OnItsOwn (store : List ℕ) (ts : List Turn) (w : World) (i : ℕ) : Type 0 where
-  pub words :
-      words_of (after store ts w) (session_at w i)
-      ≡ (run_of (steps_of (session_at w i).owner (mine i ts)) (code_at store w i) (window_at w i) (state_at w i)).words
-  pub registers :
-      session_at (after store ts w) i
-      ≡ at_cpu (session_at w i) (cpu_of (run_of (steps_of (session_at w i).owner (mine i ts)) (code_at store w i) (window_at w i) (state_at w i)))
-  pub answers : mine i (answers_of store ts w) ≡ reports_of (session_at w i).owner (code_at store w i) (window_at w i) (mine i ts) (state_at w i)
-  pub counts :
-      reported (mine i (answers_of store ts w)) ≡ count_of (steps_of (session_at w i).owner (mine i ts)) (code_at store w i) (window_at w i) (state_at w i)
+  pub words : words_of (after store ts w) (session_at w i) ≡ (run_of (steps_of (mine i ts)) (code_at store w i) (window_at w i) (state_at w i)).words
+  pub registers : session_at (after store ts w) i ≡ at_cpu (session_at w i) (cpu_of (run_of (steps_of (mine i ts)) (code_at store w i) (window_at w i) (state_at w i)))
+  pub answers : mine i (answers_of store ts w) ≡ reports_of (code_at store w i) (window_at w i) (mine i ts) (state_at w i)
+  pub counts : reported (mine i (answers_of store ts w)) ≡ count_of (steps_of (mine i ts)) (code_at store w i) (window_at w i) (state_at w i)
 
 -- ---- session i after the turns ts, from a world in which it has just been opened: the lowest stack pointer of its record is the least SP that the
 -- documented machine gives it, from the opening on to after the last step of its own turns, and it had that SP
 
 pub record LowestSince (store : List ℕ) (ts : List Turn) (w : World) (i : ℕ) : Type 0 where
   pub each :
-      (k : ℕ) → k ≤ steps_of (session_at w i).owner (mine i ts)
+      (k : ℕ) → k ≤ steps_of (mine i ts)
       → (session_at (after store ts w) i).cpu.regs.lowest ≤ (run_of k (code_at store w i) (window_at w i) (state_at w i)).cpu.regs.sp
   pub steps : ℕ
-  pub most : steps ≤ steps_of (session_at w i).owner (mine i ts)
+  pub most : steps ≤ steps_of (mine i ts)
   pub there : (run_of steps (code_at store w i) (window_at w i) (state_at w i)).cpu.regs.sp ≡ (session_at (after store ts w) i).cpu.regs.lowest
 
--- session i of one world and session j of another: both are open, and agree on owner, registers, kind, region, code and the words of their windows.
--- Record numbers, slots, places in memory and of the windows, S, all other shared words, the memories' sizes and all that other sessions hold, their
--- owners too, may differ.
+-- session i of one world and session j of another: both are open, and agree on registers, kind, region, code and the words of their windows. Record
+-- numbers, slots, places in memory and of the windows, S, all other shared words, the memories' sizes and all that other sessions hold may differ.
 pub record Alike (store : List ℕ) (w : World) (i : ℕ) (store' : List ℕ) (w' : World) (j : ℕ) : Type 0 where
   pub open_here : (session_at w i).used ≡ true
   pub open_there : (session_at w' j).used ≡ true
-  pub owner : (session_at w i).owner ≡ (session_at w' j).owner
   pub cpu : (session_at w i).cpu ≡ (session_at w' j).cpu
   pub words : words_of w (session_at w i) ≡ words_of w' (session_at w' j)
   pub code : code_at store w i ≡ code_at store' w' j
   pub window : window_at w i ≡ window_at w' j
 
--- session i of one world and session j of another, both on the range of a farm, with the same records of that farm: alike besides in owner, registers,
--- kind, region and code. Every other record of the archives, S, where the farm's records begin, and all that other sessions hold may differ.
+-- session i of one world and session j of another, both on the range of a farm, with the same records of that farm: alike besides in registers, kind,
+-- region and code. Every other record of the archives, S, where the farm's records begin, and all that other sessions hold may differ.
 pub record OfFarm (farm : ℕ) (store : List ℕ) (w : World) (i : ℕ) (store' : List ℕ) (w' : World) (j : ℕ) : Type 0 where
   pub open_here : (session_at w i).used ≡ true
   pub open_there : (session_at w' j).used ≡ true
-  pub owner : (session_at w i).owner ≡ (session_at w' j).owner
   pub range_here : (session_at w i).window ≡ range_of (shared_of w) farm
   pub range_there : (session_at w' j).window ≡ range_of (shared_of w') farm
   pub records : records_of (shared_of w) farm ≡ records_of (shared_of w') farm
@@ -191,26 +180,6 @@ pub record FirstFall (a : List ℕ) (r : ℕ) : Type 0 where
   pub last : r < records_in a
   pub falls : farm_at a r < farm_at a (r - 1)
   pub first : (q : ℕ) → q + 1 < r → farm_at a q ≤ farm_at a (q + 1)
-
--- two benches that differ only in the private words, registers and kinds of other desks' sessions than d's
-pub record DifferOnly (d : ℕ) (w w' : World) : Type 0 where
-  pub same_n : w.bench.n ≡ w'.bench.n
-  pub same_s : w.bench.s ≡ w'.bench.s
-  pub same_slots : w.bench.slots ≡ w'.bench.slots
-  pub same_size : length w.mem ≡ length w'.mem
-  pub same_records : (i : ℕ) → at_cpu (session_at w i) no_cpu ≡ at_cpu (session_at w' i) no_cpu
-  pub same_own : (i : ℕ) → owned_by d (session_at w i) ≡ true → (session_at w i).cpu ≡ (session_at w' i).cpu
-  pub same_words : (j : ℕ) → ((i : ℕ) → InRegion w i j → (session_at w i).owner ≡ d) → get_or w.mem j 0 ≡ get_or w'.mem j 0
-
--- two benches that desk d sees alike: limits, slots, shared words, and what it owns, by number. The other desks' sessions may be anything, and so may the places
--- of this desk's own regions, and every free word
-pub record SeesAlike (d : ℕ) (w w' : World) : Type 0 where
-  pub same_n : w.bench.n ≡ w'.bench.n
-  pub same_s : w.bench.s ≡ w'.bench.s
-  pub same_slots : w.bench.slots ≡ w'.bench.slots
-  pub same_shared : shared_of w ≡ shared_of w'
-  pub same_open : (i : ℕ) → open_for w d i ≡ open_for w' d i
-  pub same_held : (i : ℕ) → open_for w d i ≡ true → held_at w i ≡ held_at w' i
 
 pub record Demands : Type 0 where
   -- ======== 1: "Any bytes, any numbers, any bench may be handed to any entry point. It ends, and either does the work or gives one numbered
@@ -247,20 +216,18 @@ pub record Demands : Type 0 where
   pub stays_sound : (store : List ℕ) (q : Request) (w : World) → Sound store w → Sound store (asked store q w).world
   -- if 11 to 14 do not apply: refusal 15 exactly when there is no gap of L free words; else the session is opened
   pub fifteen :
-      (store : List ℕ) (w : World) (slot len : ℕ) (v : Window) (owner : ℕ) → Sound store w → loaded_at w slot ≡ true
+      (store : List ℕ) (w : World) (slot len : ℕ) (v : Window) → Sound store w → loaded_at w slot ≡ true
       → len_ok (code_of store (slot_at w.bench.slots slot)) len ≡ true → inside_shared w.bench.s v ≡ true → record_for w ≤ 15
-      → (answer_ruling (window_open_of store slot len v owner w).answer ≡ refused 15 0) ↔ ((a : ℕ) → GapFrom w len a → ⊥)
+      → (answer_ruling (window_open_of store slot len v w).answer ≡ refused 15 0) ↔ ((a : ℕ) → GapFrom w len a → ⊥)
   pub opened :
-      (store : List ℕ) (w : World) (slot len : ℕ) (v : Window) (owner i : ℕ) → Sound store w → (window_open_of store slot len v owner w).answer ≡ Done i
-      → Opened store slot len v owner w (window_open_of store slot len v owner w).world i
+      (store : List ℕ) (w : World) (slot len : ℕ) (v : Window) (i : ℕ) → Sound store w → (window_open_of store slot len v w).answer ≡ Done i
+      → Opened store slot len v w (window_open_of store slot len v w).world i
   -- request 7: "older openings have all S words. A window not inside the S words gets 13, in soundness 11": of an open session exactly the windows
   -- inside them are sound
-  pub older_opening :
-      (store : List ℕ) (w : World) (slot len owner : ℕ)
-      → open_of store slot len owner w ≡ window_open_of store slot len (record { first = 0; len = w.bench.s }) owner w
+  pub older_opening : (store : List ℕ) (w : World) (slot len : ℕ) → open_of store slot len w ≡ window_open_of store slot len (record { first = 0; len = w.bench.s }) w
   pub window_refused :
-      (store : List ℕ) (w : World) (slot len : ℕ) (v : Window) (owner : ℕ) → Sound store w → loaded_at w slot ≡ true
-      → w.bench.s < v.first + v.len → answer_ruling (window_open_of store slot len v owner w).answer ≡ refused 13 0
+      (store : List ℕ) (w : World) (slot len : ℕ) (v : Window) → Sound store w → loaded_at w slot ≡ true → w.bench.s < v.first + v.len
+      → answer_ruling (window_open_of store slot len v w).answer ≡ refused 13 0
   pub window_sound :
       (store : List ℕ) (w : World) (i : ℕ) (v : Window) → Sound store w → (session_at w i).used ≡ true
       → (sound_b (at_sessions w.bench (set w.bench.sessions i (at_window (session_at w i) v))) w.mem store ≡ true) ↔ (v.first + v.len ≤ w.bench.s)
@@ -281,24 +248,18 @@ pub record Demands : Type 0 where
   pub range_inside : (a : List ℕ) (farm : ℕ) → (range_of a farm).first + (range_of a farm).len ≤ length a
   -- "and opens a session that sees only that range": an opening for a farm that is done is the opening on that range
   pub farm_opened :
-      (store : List ℕ) (w : World) (slot len farm owner i : ℕ) → Sound store w → (farm_open_of store slot len farm owner w).answer ≡ Done i
-      → (accepted (shared_of w) ≡ true) × Opened store slot len (range_of (shared_of w) farm) owner w (farm_open_of store slot len farm owner w).world i
-  -- an open session is closed by its desk
+      (store : List ℕ) (w : World) (slot len farm i : ℕ) → Sound store w → (farm_open_of store slot len farm w).answer ≡ Done i
+      → (accepted (shared_of w) ≡ true) × Opened store slot len (range_of (shared_of w) farm) w (farm_open_of store slot len farm w).world i
+  -- an open session is closed
   pub closed :
-      (store : List ℕ) (w : World) (desk i : ℕ) → Sound store w → open_for w desk i ≡ true
-      → ((close_of store desk i w).answer ≡ Done 0) × Closed w (close_of store desk i w).world i
-  -- request 5, "A wrong desk gets refusal 12, the same as for a session that isn't open": 12 exactly if the number is above 15, the record is not used,
-  -- or its owner is another desk; and before 16, whatever the number of steps
-  pub desk_open : (w : World) (desk i : ℕ) → (open_for w desk i ≡ true) ↔ ((i ≤ 15) × ((session_at w i).used ≡ true) × ((session_at w i).owner ≡ desk))
-  pub desk_turn : (store : List ℕ) (w : World) (desk i k : ℕ) → Sound store w → ((turn_of store desk i k w).answer ≡ Refused 12 0) ↔ (open_for w desk i ≡ false)
-  pub desk_close : (store : List ℕ) (w : World) (desk i : ℕ) → Sound store w → ((close_of store desk i w).answer ≡ Refused 12 0) ↔ (open_for w desk i ≡ false)
+      (store : List ℕ) (w : World) (i : ℕ) → Sound store w → open_at w i ≡ true
+      → ((close_of store i w).answer ≡ Done 0) × Closed w (close_of store i w).world i
   -- "Answers allowed by the same contract are shown equal": answer, bench and memory
   pub one_answer : (r r' : Out) (m m' : List ℕ) (x : Result) → result_of r m ≡ x → result_of r' m' ≡ x → (r ≡ r') × (m ≡ m')
   -- an operand that is there has one byte or two and ends inside the segment; of one that is not, the place is the first byte past the end
   pub operand_there : (f : Form) (s : List ℕ) (at v n : ℕ) → fetched f s at ≡ got v n → (at < n) × (n ≤ at + 2) × (n ≤ length s)
   pub operand_cut : (f : Form) (s : List ℕ) (at p : ℕ) → fetched f s at ≡ out p → at ≤ length s → p ≡ length s
-  -- none of this is empty: a bench with a session of every kind, an accepted turn of each, two farms on their own records, two desks
-  -- with their own sessions, and every refusal 11 to 17 and 23
+  -- none of this is empty: a bench with a session of every kind, an accepted turn of each, two farms on their own records, and every refusal 11 to 17 and 23
   pub witness : Witness
   -- ======== 2: "Each step is the transition of the documented p-machine, or the one fault that document 01 names for it, with that session's
   -- words and registers as before the step." The machine is the definition of `pmachine`; that the code's turn is its run is the contract of `turn`.
@@ -442,13 +403,10 @@ pub record Demands : Type 0 where
   pub once : (p q : ℕ → Bool) (s o : List ℕ) → swap_at q s (swap_at p s o) ≡ swap_at (λ w. p w || q w) s o
   -- ======== 3: "Take a sound bench and any accepted turns, with no opening, closing or loading between them, and memory and code touched by
   -- nobody else." That is what `after` says: each turn begins with the world that the one before it left. Refused turns may be among them.
-  -- Request 5: "Demand 3 covers turns from either desk." Each turn names a desk, any number; nothing is supposed of which names which.
 
   pub turns_stay_sound : (store : List ℕ) (ts : List Turn) (w : World) → Sound store w → Sound store (after store ts w)
   -- "read-only shared words"
   pub shared_kept : (store : List ℕ) (ts : List Turn) (w : World) → Sound store w → shared_of (after store ts w) ≡ shared_of w
-  -- request 5: turns leave each session its owner
-  pub owner_kept : (store : List ℕ) (ts : List Turn) (w : World) → Sound store w → (i : ℕ) → (session_at (after store ts w) i).owner ≡ (session_at w i).owner
   pub in_turn : (store : List ℕ) (ts : List Turn) (w : World) → map (λ (a : By Answer). a.who) (answers_of store ts w) ≡ map (λ (t : Turn). t.who) ts
   -- "The end is the same as when each session takes its own turns alone, one session after another": session 0's, then session 1's, up to
   -- session n - 1 (16 sessions, or more numbers if some are asked for, which are refused); and so are the answers
@@ -468,15 +426,12 @@ pub record Demands : Type 0 where
   -- "Demand 3 counts it among the registers": it is among those of `on_its_own`. So, of a session that was opened on a sound bench, after any turns of
   -- any sessions, it is the least SP that its own steps reached
   pub lowest_since :
-      (store : List ℕ) (w : World) (slot len : ℕ) (v : Window) (owner i : ℕ) (ts : List Turn) → Sound store w
-      → (window_open_of store slot len v owner w).answer ≡ Done i → LowestSince store ts (window_open_of store slot len v owner w).world i
-  -- every turn of a session that is not open is refused with 12, whichever desk it names
+      (store : List ℕ) (w : World) (slot len : ℕ) (v : Window) (i : ℕ) (ts : List Turn) → Sound store w → (window_open_of store slot len v w).answer ≡ Done i
+      → LowestSince store ts (window_open_of store slot len v w).world i
   pub not_open :
       (store : List ℕ) (ts : List Turn) (w : World) → Sound store w → (i : ℕ) → (session_at w i).used ≡ false
-      → mine i (answers_of store ts w) ≡ map (λ (q : Asked). Refused 12 0) (mine i ts)
-  -- request 5: turns of a wrong desk change nothing: the end is that of the turns that owners ask for
-  pub wrong_desk : (store : List ℕ) (ts : List Turn) (w : World) → Sound store w → after store ts w ≡ after store (owners_only w ts) w
-  -- sessions that are alike, and take the same turns of the same desks, have the same answers and are alike at the end, whatever the others hold and do
+      → mine i (answers_of store ts w) ≡ map (λ (k : ℕ). Refused 12 0) (mine i ts)
+  -- sessions that are alike, and take the same turns, have the same answers and are alike at the end, whatever the others hold and do
   pub two_runs :
       (store store' : List ℕ) (ts us : List Turn) (w w' : World) (i j : ℕ) → Sound store w → Sound store' w' → mine i ts ≡ mine j us
       → Alike store w i store' w' j → mine i (answers_of store ts w) ≡ mine j (answers_of store' us w')
@@ -489,47 +444,10 @@ pub record Demands : Type 0 where
   pub other_farms :
       (farm : ℕ) (store store' : List ℕ) (ts us : List Turn) (w w' : World) (i j : ℕ) → Sound store w → Sound store' w' → mine i ts ≡ mine j us
       → OfFarm farm store w i store' w' j → NoOtherFarm farm store store' ts us w w' i j
-  -- and so do sessions that were opened for the farm on both sides, with the same segment, L and owner, if both openings were done: their numbers may differ
+  -- and so do sessions that were opened for the farm on both sides, with the same segment and L, if both openings were done: their numbers may differ
   pub other_farms_opened :
-      (farm : ℕ) (store store' : List ℕ) (ts us : List Turn) (w w' : World) (slot slot' len owner i j : ℕ) → Sound store w → Sound store' w'
+      (farm : ℕ) (store store' : List ℕ) (ts us : List Turn) (w w' : World) (slot slot' len i j : ℕ) → Sound store w → Sound store' w'
       → code_of store (slot_at w.bench.slots slot) ≡ code_of store' (slot_at w'.bench.slots slot')
       → records_of (shared_of w) farm ≡ records_of (shared_of w') farm
-      → (farm_open_of store slot len farm owner w).answer ≡ Done i → (farm_open_of store' slot' len farm owner w').answer ≡ Done j → mine i ts ≡ mine j us
-      → NoOtherFarm farm store store' ts us (farm_open_of store slot len farm owner w).world (farm_open_of store' slot' len farm owner w').world i j
-  -- ======== request 5, "A second desk": what one desk can learn of another, by everything that can be asked of a bench. d is this desk; every other number is
-  -- another desk's.
-
-  -- (A) "Two benches that differ only in the other desk's private words, registers and session kinds, both sound, give this desk the same answers": lists of
-  -- anything that can be asked, by any desk, which are the same but for the turns of other desks; all but those turns is told alike, and the benches
-  -- still differ only so
-  pub same_told :
-      (store : List ℕ) (d : ℕ) (qs us : List Ask) (w w' : World) → Sound store w → Sound store w' → DifferOnly d w w'
-      → without (turn_of_another d) qs ≡ without (turn_of_another d) us
-      → told_but (turn_of_another d) store qs w ≡ told_but (turn_of_another d) store us w'
-  pub still_differ :
-      (store : List ℕ) (d : ℕ) (qs us : List Ask) (w w' : World) → Sound store w → Sound store w' → DifferOnly d w w'
-      → without (turn_of_another d) qs ≡ without (turn_of_another d) us
-      → DifferOnly d (left_by store qs w) (left_by store us w')
-  -- (B) "What a desk can still learn of the other is exactly refusals 14 and 15, the session numbers it is given, and 11": by one question or request
-  -- of its own, or that names no desk, to any two benches that it sees alike, sound or not
-  pub learned :
-      (store : List ℕ) (d : ℕ) (q : Ask) (w w' : World) → length w.bench.sessions ≡ 16 → length w'.bench.sessions ≡ 16
-      → by_another d q ≡ false → SeesAlike d w w' → Learned store d q w w'
-  -- by many, among which the other desks open, close and turn what they like, each side its own: if its openings are answered alike, so is everything, and it
-  -- still sees alike
-  pub only_openings :
-      (store : List ℕ) (d : ℕ) (qs us : List Ask) (w w' : World) → Sound store w → Sound store w' → SeesAlike d w w'
-      → without (by_another d) qs ≡ without (by_another d) us
-      → told_but (but_openings d) store qs w ≡ told_but (but_openings d) store us w'
-      → told_but (by_another d) store qs w ≡ told_but (by_another d) store us w'
-  pub still_sees :
-      (store : List ℕ) (d : ℕ) (qs us : List Ask) (w w' : World) → Sound store w → Sound store w' → SeesAlike d w w'
-      → without (by_another d) qs ≡ without (by_another d) us
-      → told_but (but_openings d) store qs w ≡ told_but (but_openings d) store us w'
-      → SeesAlike d (left_by store qs w) (left_by store us w')
-  -- what another desk asks changes nothing that this desk sees
-  pub untouched : (store : List ℕ) (d : ℕ) (q : Ask) (w : World) → Sound store w → by_another d q ≡ true → SeesAlike d w (leaves store q w)
-  -- benches that differ as in (A) are seen alike as in (B)
-  pub differ_sees : (store : List ℕ) (d : ℕ) (w w' : World) → Sound store w → Sound store w' → DifferOnly d w w' → SeesAlike d w w'
-  -- and "exactly" the other way: for each of the four, two benches that a desk sees alike and an opening that tells them apart; and two benches that differ as in (A)
-  pub channels : Channels
+      → (farm_open_of store slot len farm w).answer ≡ Done i → (farm_open_of store' slot' len farm w').answer ≡ Done j → mine i ts ≡ mine j us
+      → NoOtherFarm farm store store' ts us (farm_open_of store slot len farm w).world (farm_open_of store' slot' len farm w').world i j

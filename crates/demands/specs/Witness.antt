@@ -1,8 +1,8 @@
 -- The promises are not empty: the entries lead from nothing to a sound bench with a ready, a finished and a faulted session, and each of them
 -- takes a turn; a segment with a routine that is not linked loads; a report that ends within an instruction faults where its bytes ran out; one with a
--- pool runs in either byte sex, and its lowest stack pointer is judged; two farms' reports read their own records and no others; two desks
--- have their own sessions; and refusals 1, 4, 6, 11 to 17 and 23 are each given to somebody. So no runner that refuses everything, and no loader that
--- takes everything, meets the contracts. Proved as `witness` in proofs/Witness, by computing. Above: Demands. Below: bench's entries.
+-- pool runs in either byte sex, and its lowest stack pointer is judged; two farms' reports read their own records and no others; and refusals 1, 4, 6, 11 to
+-- 17 and 23 are each given to somebody. So no runner that refuses everything, and no loader that takes everything, meets the contracts.
+-- Proved as `witness` in proofs/Witness, by computing. Above: Demands. Below: bench's entries.
 use Rattle.std.specs.Prelude.{◌≡◌, Bool, true, false, cond, List, [], ◌∷◌, ◌++◌, ℕ, zero, suc, ◌/◌, ◌%◌, replicate, set, take, drop}
 use Rattle.machine.specs.declared.Cpu.{Cpu}
 use Rattle.machine.specs.declared.Kind.TheVariants.{Ready, Finished, Faulted}
@@ -35,7 +35,7 @@ unfoldable pub linking : World
 linking = (load_of declared 1 34 34 (load_of declared 0 0 34 (world_of (new_of 56 4).bench (replicate 56 0))).world).world
 
 unfoldable pub calling : World
-calling = (open_of declared 1 16 1 (open_of declared 0 16 1 linking).world).world
+calling = (open_of declared 1 16 (open_of declared 0 16 linking).world).world
 
 -- a segment that ends within LDL's operand, as in case (e), loaded, and a session on it after its turn; and the same with the place that fault 1
 -- had before request 8, as a bench of that time has it
@@ -43,7 +43,7 @@ unfoldable pub short : List ℕ
 short = segment 0x87 0x80
 
 unfoldable pub ran_out : World
-ran_out = (turn_of short 1 0 9 (open_of short 0 16 1 (load_of short 0 0 32 (world_of (new_of 56 4).bench (replicate 56 0))).world).world).world
+ran_out = (turn_of short 0 9 (open_of short 0 16 (load_of short 0 0 32 (world_of (new_of 56 4).bench (replicate 56 0))).world).world).world
 
 unfoldable pub earlier : World
 earlier =
@@ -71,17 +71,17 @@ pools = units true 0 ++ (units false 0 ++ units true 7)
 
 unfoldable pub reporting : World
 reporting =
-    (open_of pools 2 16 1
-    (open_of pools 1 16 1
-    (open_of pools 0 16 1
+    (open_of pools 2 16
+    (open_of pools 1 16
+    (open_of pools 0 16
     (load_of pools 2 120 60 (load_of pools 1 60 60 (load_of pools 0 0 60 (world_of (new_of 56 4).bench (replicate 56 0))).world).world).world).world).world).world
 
 unfoldable pub reported : World
-reported = (turn_of pools 1 2 9 (turn_of pools 1 1 9 (turn_of pools 1 0 9 reporting).world).world).world
+reported = (turn_of pools 2 9 (turn_of pools 1 9 (turn_of pools 0 9 reporting).world).world).world
 
 -- the first of them after three steps, which pushed three words and popped one; and the same bench with another lowest stack pointer in its record
 unfoldable pub popped : World
-popped = (turn_of pools 1 0 3 reporting).world
+popped = (turn_of pools 0 3 reporting).world
 
 unfoldable pub lowest_at : ℕ → World
 lowest_at x =
@@ -90,7 +90,7 @@ lowest_at x =
     world_of (at_sessions popped.bench (set popped.bench.sessions 0 (at_cpu (session_at popped 0) c))) popped.mem
 
 -- a report that reads word 3 of its window and then word 7 (LDCI, SIND0, twice), on a bench whose archive has a record of each of two farms; opened for
--- the one and for the other, for a farm between them that has none, and on all shared words, as before request 7; by desks 1 and 2 in turn
+-- the one and for the other, for a farm between them that has none, and on all shared words, as before request 7
 unfoldable pub reads : List ℕ
 reads = take 30 (segment 0 0) ++ (0x81 ∷ 3 ∷ 0x80 ∷ 0x78 ∷ 0x81 ∷ 7 ∷ 0x80 ∷ 0x78 ∷ [])
 
@@ -99,10 +99,10 @@ archived a b = (load_of reads 0 0 38 (world_of (new_of 72 8).bench (a ∷ 1 ∷ 
 
 unfoldable pub farmed : World
 farmed =
-    (open_of reads 0 16 2 (farm_open_of reads 0 16 4 1 (farm_open_of reads 0 16 5 2 (farm_open_of reads 0 16 3 1 (archived 3 5)).world).world).world).world
+    (open_of reads 0 16 (farm_open_of reads 0 16 4 (farm_open_of reads 0 16 5 (farm_open_of reads 0 16 3 (archived 3 5)).world).world).world).world
 
 unfoldable pub read : World
-read = (turn_of reads 2 3 9 (turn_of reads 1 2 9 (turn_of reads 2 1 9 (turn_of reads 1 0 9 farmed).world).world).world).world
+read = (turn_of reads 3 9 (turn_of reads 2 9 (turn_of reads 1 9 (turn_of reads 0 9 farmed).world).world).world).world
 
 abbrev pub window_on : ℕ → ℕ → Window
 window_on first len = record { first = first; len = len }
@@ -120,18 +120,18 @@ store = segment 5 7 ++ segment 150 0
 unfoldable pub loaded : World
 loaded = (load_of store 1 32 32 (load_of store 0 0 32 (world_of (new_of 56 4).bench (replicate 56 0))).world).world
 
--- three sessions of 16 words: 0 and 2 on the small segment, desk 1's, and 1 on the other, desk 2's
+-- three sessions of 16 words: 0 and 2 on the small segment, 1 on the other
 unfoldable pub opened : World
-opened = (open_of store 0 16 1 (open_of store 1 16 2 (open_of store 0 16 1 loaded).world).world).world
+opened = (open_of store 0 16 (open_of store 1 16 (open_of store 0 16 loaded).world).world).world
 
 -- session 1 has finished, session 2 has faulted
 unfoldable pub ran : World
-ran = (turn_of store 1 2 9 (turn_of store 2 1 1 opened).world).world
+ran = (turn_of store 2 9 (turn_of store 1 1 opened).world).world
 
 -- so many openings of 16 words, one after another, on a new bench of 300 words
 unfoldable pub openings : ℕ → World → World
 openings zero w = w
-openings (suc k) w = openings k (open_of store 0 16 1 w).world
+openings (suc k) w = openings k (open_of store 0 16 w).world
 
 unfoldable pub full : World
 full = openings 16 (load_of store 0 0 32 (world_of (new_of 300 4).bench (replicate 300 0))).world
@@ -143,30 +143,21 @@ pub record Witness : Type 0 where
   pub finished : (session_at ran 1).cpu.kind ≡ Finished
   pub faulted : (session_at ran 2).cpu.kind ≡ Faulted 1 32
   -- and an accepted turn of each
-  pub turn_ready : (turn_of store 1 0 2 ran).answer ≡ Done 2
-  pub turn_finished : (turn_of store 2 1 9 ran).answer ≡ Done 0
-  pub turn_faulted : (turn_of store 1 2 9 ran).answer ≡ Done 0
+  pub turn_ready : (turn_of store 0 2 ran).answer ≡ Done 2
+  pub turn_finished : (turn_of store 1 9 ran).answer ≡ Done 0
+  pub turn_faulted : (turn_of store 2 9 ran).answer ≡ Done 0
   -- the small run: "a turn of 9 returns 3"; word 15 is 5, word 14 is 7
-  pub small_run : (turn_of store 1 2 9 opened).answer ≡ Done 3
+  pub small_run : (turn_of store 2 9 opened).answer ≡ Done 3
   pub small_words : drop 14 (words_of ran (session_at ran 2)) ≡ 7 ∷ 5 ∷ []
-  -- request 5: two desks on one bench. Each turn and each closing is done for the session's owner and refused with 12 to the other desk, also a turn of
-  -- 70,000 steps, which is 16 for the owner; and a record that is not used is nobody's, also not the desk's whose number stands in it
-  pub two_desks : ((session_at ran 0).owner ≡ 1) × ((session_at ran 1).owner ≡ 2)
-  pub owners_turns : ((turn_of store 1 0 2 opened).answer ≡ Done 2) × ((turn_of store 2 1 1 opened).answer ≡ Done 1)
-  pub others_turns : ((turn_of store 2 0 2 opened).answer ≡ Refused 12 0) × ((turn_of store 1 1 1 opened).answer ≡ Refused 12 0)
-  pub owners_closings : ((close_of store 1 0 ran).answer ≡ Done 0) × ((close_of store 2 1 ran).answer ≡ Done 0)
-  pub others_closings : ((close_of store 2 0 ran).answer ≡ Refused 12 0) × ((close_of store 1 1 ran).answer ≡ Refused 12 0)
-  pub twelve_first : ((turn_of store 2 0 70000 ran).answer ≡ Refused 12 0) × ((turn_of store 1 0 70000 ran).answer ≡ Refused 16 0)
-  pub nobodys : ((session_at ran 3).owner ≡ 0) × ((turn_of store 0 3 1 ran).answer ≡ Refused 12 0) × ((close_of store 0 3 ran).answer ≡ Refused 12 0)
   -- a segment with a routine that is not linked loads, and so does its twin; a call of that routine is fault 8 at its place
   pub unlinked_loads : (loaded_at linking 0 ≡ true) × (loaded_at linking 1 ≡ true)
-  pub unlinked_call : (session_at (turn_of declared 1 0 9 calling).world 0).cpu.kind ≡ Faulted 8 32
-  pub twin_call : (session_at (turn_of declared 1 1 9 calling).world 1).cpu.kind ≡ Faulted 8 32
+  pub unlinked_call : (session_at (turn_of declared 0 9 calling).world 0).cpu.kind ≡ Faulted 8 32
+  pub twin_call : (session_at (turn_of declared 1 9 calling).world 1).cpu.kind ≡ Faulted 8 32
   -- request 8: fault 1 at the first byte that is missing, with the counter on the instruction; and a record of the place before it is sound and stays
   pub ran_out_lem : (session_at ran_out 0).cpu.kind ≡ Faulted 1 32
   pub ran_out_counter : (session_at ran_out 0).cpu.regs.counter ≡ 30
-  pub earlier_turn : (turn_of short 1 0 9 earlier).answer ≡ Done 0
-  pub earlier_place : (session_at (turn_of short 1 0 9 earlier).world 0).cpu.kind ≡ Faulted 1 30
+  pub earlier_turn : (turn_of short 0 9 earlier).answer ≡ Done 0
+  pub earlier_place : (session_at (turn_of short 0 9 earlier).world 0).cpu.kind ≡ Faulted 1 30
   -- request 2: in either sex the report pushes its two words, the last on top, chooses by its table and finishes; if the table's last word is the real pool's
   -- it faults with 6 at XJP, with its words as before; a first word that points at W is refused with 4, and a slot that holds one is not sound
   pub units_words : drop 13 (words_of reported (session_at reported 0)) ≡ 9 ∷ 7 ∷ 300 ∷ []
@@ -175,12 +166,12 @@ pub record Witness : Type 0 where
   pub real_pool_lem : (session_at reported 2).cpu.kind ≡ Faulted 6 35
   pub real_pool_words : drop 13 (words_of reported (session_at reported 2)) ≡ 1 ∷ 7 ∷ 300 ∷ []
   pub first_word : (load_of (pools ++ units true 8) 3 180 60 reported).answer ≡ Refused 4 0
-  pub first_word_sound : (turn_of (units true 8 ++ drop 60 pools) 1 1 1 reported).answer ≡ Refused 11 0
+  pub first_word_sound : (turn_of (units true 8 ++ drop 60 pools) 1 1 reported).answer ≡ Refused 11 0
   -- request 3: SP went down to 13 and came back to 14; a bench is sound with 6+G, which is 6, to SP for the lowest, and with no other number
   pub came_back : ((session_at popped 0).cpu.regs.sp ≡ 14) × ((session_at popped 0).cpu.regs.lowest ≡ 13)
-  pub lowest_sound : ((turn_of pools 1 0 1 (lowest_at 6)).answer ≡ Done 1) × ((turn_of pools 1 0 1 (lowest_at 14)).answer ≡ Done 1)
-  pub lowest_below : (turn_of pools 1 0 1 (lowest_at 5)).answer ≡ Refused 11 0
-  pub lowest_above : ((turn_of pools 1 0 1 (lowest_at 15)).answer ≡ Refused 11 0) × ((turn_of pools 1 0 1 (lowest_at 18446744073709551615)).answer ≡ Refused 11 0)
+  pub lowest_sound : ((turn_of pools 0 1 (lowest_at 6)).answer ≡ Done 1) × ((turn_of pools 0 1 (lowest_at 14)).answer ≡ Done 1)
+  pub lowest_below : (turn_of pools 0 1 (lowest_at 5)).answer ≡ Refused 11 0
+  pub lowest_above : ((turn_of pools 0 1 (lowest_at 15)).answer ≡ Refused 11 0) × ((turn_of pools 0 1 (lowest_at 18446744073709551615)).answer ≡ Refused 11 0)
   -- request 7: each farm's report reads its own concentration and faults with 6 one word past its record; a farm without records reads nothing; by
   -- the older opening a report reads both farms' words
   pub own_range : (range_answer reads 3 farmed ≡ At (window_on 0 4)) × (range_answer reads 5 farmed ≡ At (window_on 4 4)) × (range_answer reads 4 farmed ≡ At (window_on 0 0))
@@ -189,25 +180,25 @@ pub record Witness : Type 0 where
   pub no_records : (session_at read 2).cpu.kind ≡ Faulted 6 33
   pub all_shared_lem : drop 14 (words_of read (session_at read 3)) ≡ 40 ∷ 17 ∷ []
   -- farm numbers that fall are 23, before a bad slot and after 11; equal ones are taken
-  pub falls : (range_answer reads 3 (archived 5 3) ≡ NotFound 23 0) × ((farm_open_of reads 16 16 3 1 (archived 5 3)).answer ≡ Refused 23 0)
-  pub falls_unsound : (farm_open_of [] 16 16 3 1 (archived 5 3)).answer ≡ Refused 11 0
+  pub falls : (range_answer reads 3 (archived 5 3) ≡ NotFound 23 0) × ((farm_open_of reads 16 16 3 (archived 5 3)).answer ≡ Refused 23 0)
+  pub falls_unsound : (farm_open_of [] 16 16 3 (archived 5 3)).answer ≡ Refused 11 0
   pub equal_farms : range_answer reads 3 (archived 3 3) ≡ At (window_on 0 8)
-  pub bad_slot : (farm_open_of reads 16 16 3 1 (archived 3 5)).answer ≡ Refused 12 0
+  pub bad_slot : (farm_open_of reads 16 16 3 (archived 3 5)).answer ≡ Refused 12 0
   -- an empty window at word S is inside the shared words, one past it is 13 and in a record 11
-  pub window_at_end : ((window_open_of reads 0 16 (window_on 8 0) 1 (archived 3 5)).answer ≡ Done 0) × ((turn_of reads 1 0 1 (seeing 8 0)).answer ≡ Done 1)
-  pub window_past : ((window_open_of reads 0 16 (window_on 9 0) 1 (archived 3 5)).answer ≡ Refused 13 0) × ((turn_of reads 1 0 1 (seeing 9 0)).answer ≡ Refused 11 0)
+  pub window_at_end : ((window_open_of reads 0 16 (window_on 8 0) (archived 3 5)).answer ≡ Done 0) × ((turn_of reads 0 1 (seeing 8 0)).answer ≡ Done 1)
+  pub window_past : ((window_open_of reads 0 16 (window_on 9 0) (archived 3 5)).answer ≡ Refused 13 0) × ((turn_of reads 0 1 (seeing 9 0)).answer ≡ Refused 11 0)
   pub window_wraps :
-      ((window_open_of reads 0 16 (window_on 4 18446744073709551615) 1 (archived 3 5)).answer ≡ Refused 13 0) × ((turn_of reads 1 0 1 (seeing 18446744073709551615 1)).answer ≡ Refused 11 0)
+      ((window_open_of reads 0 16 (window_on 4 18446744073709551615) (archived 3 5)).answer ≡ Refused 13 0) × ((turn_of reads 0 1 (seeing 18446744073709551615 1)).answer ≡ Refused 11 0)
   -- refusals; the entry that is refused with 6 is a zero of routine 1
   pub no_bench : (new_of 56 57).answer ≡ Refused 17 0
-  pub not_sound : (turn_of [] 1 0 1 ran).answer ≡ Refused 11 0
-  pub no_session_lem : (turn_of store 1 4000000000 1 ran).answer ≡ Refused 12 0
-  pub too_many : (turn_of store 1 0 65536 ran).answer ≡ Refused 16 0
+  pub not_sound : (turn_of [] 0 1 ran).answer ≡ Refused 11 0
+  pub no_session_lem : (turn_of store 4000000000 1 ran).answer ≡ Refused 12 0
+  pub too_many : (turn_of store 0 65536 ran).answer ≡ Refused 16 0
   pub odd_start : (load_of store 2 1 32 ran).answer ≡ Refused 17 0
   pub half_segment : (load_of store 2 0 16 ran).answer ≡ Refused 1 0
   pub bad_entry : (load_of (store ++ (take 24 (segment 5 7) ++ (0 ∷ drop 25 (segment 5 7)))) 2 64 32 ran).answer ≡ Refused 6 1
-  pub too_short : (open_of store 0 15 1 ran).answer ≡ Refused 13 0
-  pub no_record : (open_of store 0 16 1 full).answer ≡ Refused 14 0
-  pub no_gap : (open_of store 0 16 1 ran).answer ≡ Refused 15 0
-  -- and a closed session's words can be given again, to the other desk
-  pub again : (open_of store 0 16 1 (close_of store 2 1 ran).world).answer ≡ Done 1
+  pub too_short : (open_of store 0 15 ran).answer ≡ Refused 13 0
+  pub no_record : (open_of store 0 16 full).answer ≡ Refused 14 0
+  pub no_gap : (open_of store 0 16 ran).answer ≡ Refused 15 0
+  -- and a closed session's words can be given again
+  pub again : (open_of store 0 16 (close_of store 1 ran).world).answer ≡ Done 1

@@ -108,17 +108,10 @@ pub fn load(b: Bench, memory: &[u16], store: &[u8], slot: usize, start: usize, l
     bench::load(b, memory, store, slot, start, len)
 }
 
-pub fn open_session(
-    b: Bench,
-    memory: &mut [u16],
-    store: &[u8],
-    slot: usize,
-    len: usize,
-    owner: usize,
-) -> Out
-    ensures { result_of result memory.new ≡ open_of store.now slot len owner (world_of b memory.old) }
+pub fn open_session(b: Bench, memory: &mut [u16], store: &[u8], slot: usize, len: usize) -> Out
+    ensures { result_of result memory.new ≡ open_of store.now slot len (world_of b memory.old) }
 {
-    bench::open_session(b, memory, store, slot, len, owner)
+    bench::open_session(b, memory, store, slot, len)
 }
 
 pub fn open_window(
@@ -128,23 +121,22 @@ pub fn open_window(
     slot: usize,
     len: usize,
     window: Window,
-    owner: usize,
 ) -> Out
-    ensures { result_of result memory.new ≡ window_open_of store.now slot len window owner (world_of b memory.old) }
+    ensures { result_of result memory.new ≡ window_open_of store.now slot len window (world_of b memory.old) }
 {
-    bench::open_window(b, memory, store, slot, len, window, owner)
+    bench::open_window(b, memory, store, slot, len, window)
 }
 
-pub fn turn(b: Bench, memory: &mut [u16], store: &[u8], desk: usize, i: usize, k: u64) -> Out
-    ensures { result_of result memory.new ≡ turn_of store.now desk i k (world_of b memory.old) }
+pub fn turn(b: Bench, memory: &mut [u16], store: &[u8], i: usize, k: u64) -> Out
+    ensures { result_of result memory.new ≡ turn_of store.now i k (world_of b memory.old) }
 {
-    bench::turn(b, memory, store, desk, i, k)
+    bench::turn(b, memory, store, i, k)
 }
 
-pub fn close(b: Bench, memory: &mut [u16], store: &[u8], desk: usize, i: usize) -> Out
-    ensures { result_of result memory.new ≡ close_of store.now desk i (world_of b memory.old) }
+pub fn close(b: Bench, memory: &mut [u16], store: &[u8], i: usize) -> Out
+    ensures { result_of result memory.new ≡ close_of store.now i (world_of b memory.old) }
 {
-    bench::close(b, memory, store, desk, i)
+    bench::close(b, memory, store, i)
 }
 
 // ---- the archive of a bench
@@ -168,11 +160,10 @@ pub fn open_farm(
     slot: usize,
     len: usize,
     farm: u16,
-    owner: usize,
 ) -> Out
-    ensures { result_of result memory.new ≡ farm_open_of store.now slot len farm owner (world_of b memory.old) }
+    ensures { result_of result memory.new ≡ farm_open_of store.now slot len farm (world_of b memory.old) }
 {
-    archive::open_farm(b, memory, store, slot, len, farm, owner)
+    archive::open_farm(b, memory, store, slot, len, farm)
 }
 
 // The record that the maintainer is shown if farm numbers fall.

@@ -1,5 +1,3 @@
 -- Laws that the proofs of every entry cite: what a list of checks comes to, and the guard. Above: the entries' crates, promises. Below: specs.
 pub mod Refusing
 pub mod Starts
-pub mod Owned
-pub mod Replaced

@@ -8,8 +8,9 @@ use native.Mathlib.Omega.{arith}
 use native.Mathlib.Decide.{dec_lt}
 use lib.Dec.{leb}
 use lib.ListN.{length, get_or}
-use borrow.Author.Tests.{le-leb, lt-leb, eqb-true}
+use borrow.Author.Tests.{le-leb, lt-leb, leb-true, eqb-true}
 use Rattle.basis.specs.Checks.{Check, check, passed, refused, ruling}
+use Rattle.basis.proofs.Bools.{both_true}
 use Rattle.basis.proofs.Checks.{needed}
 use Rattle.segment.specs.declared.Verdict.{Verdict}
 use Rattle.segment.specs.declared.Verdict.TheVariants.{Accepted, Refused as Rejected}
@@ -20,9 +21,8 @@ use Rattle.sound.specs.Bench.{no_slot, no_session, slot_at, World, session_at}
 use Rattle.sound.specs.Sound.{all, placed}
 use Rattle.sound.proofs.Lists.{decided, length_mapped, past_end}
 use Rattle.sound.proofs.Facts.{Opened, opened, Limits, limits, taken_apart}
-use Rattle.entry.specs.Entries.{is_sound, loaded_at, owned_by, open_for, begins}
+use Rattle.entry.specs.Entries.{is_sound, loaded_at, open_at, begins}
 use Rattle.entry.proofs.Refusing.{refused_first}
-use Rattle.entry.proofs.Owned.{for_low, for_used}
 
 -- sound, and what is named passes
 pub record Begun (store : List ℕ) (w : World) (asked : Bool) : Type 0 where
@@ -33,12 +33,11 @@ pub record Begun (store : List ℕ) (w : World) (asked : Bool) : Type 0 where
   pub long : length w.mem ≡ w.bench.n
   pub places : all (placed w.bench.n w.bench.s) w.bench.sessions ≡ true
 
--- the same of a session that is open and the desk's, and was read
-pub record Going (store : List ℕ) (w : World) (desk i : ℕ) (se : Session) : Type 0 where
-  pub passes : ruling (begins store w (open_for w desk i)) ≡ passed
+-- the same of a session that is open, and was read
+pub record Going (store : List ℕ) (w : World) (i : ℕ) (se : Session) : Type 0 where
+  pub passes : ruling (begins store w (open_at w i)) ≡ passed
   pub low : i ≤ 15
   pub few : w.bench.s ≤ 32768
-  pub short : length w.mem ≤ 1048576
   pub session : Opened store w se
 
 -- the verdict of the guard: the refusal of every list of checks that begins so, or what holds from then on
@@ -79,20 +78,19 @@ module _ {X : Type 0} (store : List ℕ) (w : World) (i : ℕ) (v : Verdict) whe
       → Guarded store w (loaded_at w i) v (Begun store w (loaded_at w i))
   slot_guarded f o sl e h = guarded store w sl.loaded (loaded_at w i) v h (in_sixteen (λ (x : Slot). x.loaded) f w.bench.slots i no_slot o refl sl e)
 
-  pub session_guarded : (desk : ℕ) (f : Session → X) → length (map f w.bench.sessions) ≡ 16 → (se : Session) → se ≡ session_at w i → (named : Bool) → named ≡ owned_by desk se
-      → ruling_of v ≡ ruling (begins store w named)
-      → Guarded store w (open_for w desk i) v (Going store w desk i se)
-  session_guarded desk f o se e named en h = record { refuses = whole.refuses; goes = λ t. goes (whole.goes t) }
+  pub session_guarded : (f : Session → X) → length (map f w.bench.sessions) ≡ 16 → (se : Session) → se ≡ session_at w i → ruling_of v ≡ ruling (begins store w se.used)
+      → Guarded store w (open_at w i) v (Going store w i se)
+  session_guarded f o se e h = record { refuses = whole.refuses; goes = λ t. goes (whole.goes t) }
     where
-      whole : Guarded store w (open_for w desk i) v (Begun store w (open_for w desk i))
-      whole = guarded store w named (open_for w desk i) v h (en ∙ in_sixteen (owned_by desk) f w.bench.sessions i no_session o refl se e)
+      whole : Guarded store w (open_at w i) v (Begun store w (open_at w i))
+      whole = guarded store w se.used (open_at w i) v h (in_sixteen (λ (x : Session). x.used) f w.bench.sessions i no_session o refl se e)
 
-      goes : Begun store w (open_for w desk i) → Going store w desk i se
+      goes : Begun store w (open_at w i) → Going store w i se
       goes g =
+          let u = both_true (leb i 15) (session_at w i).used g.named in
           record {
             passes = g.passes;
-            low = for_low w desk i g.named;
+            low = leb-true i 15 u.0;
             few = g.limits.few;
-            short = rw g.long g.limits.words;
-            session = rw e (opened store w (record { sound = g.sound; sixteen = length_mapped f w.bench.sessions 16 o }) i (for_used w desk i g.named));
+            session = rw e (opened store w (record { sound = g.sound; sixteen = length_mapped f w.bench.sessions 16 o }) i u.1);
           }

@@ -32,13 +32,9 @@ free_slot w slot = leb slot 15 && not (slot_at w.bench.slots slot).loaded
 abbrev pub loaded_at : World → ℕ → Bool
 loaded_at w slot = leb slot 15 && (slot_at w.bench.slots slot).loaded
 
--- a session that is open, and this desk's: request 5, "each turn or closing names its desk"
-abbrev pub owned_by : ℕ → Session → Bool
-owned_by desk se = se.used && eqb se.owner desk
-
--- 12: "session number above 15; session not open"; request 5: "A wrong desk gets refusal 12, the same as for a session that isn't open."
-abbrev pub open_for : World → ℕ → ℕ → Bool
-open_for w desk i = leb i 15 && owned_by desk (session_at w i)
+-- 12: "session number above 15; session not open"
+abbrev pub open_at : World → ℕ → Bool
+open_at w i = leb i 15 && (session_at w i).used
 
 abbrev pub begins : List ℕ → World → Bool → List Check
 begins store w named = check 11 0 (is_sound store w) ∷ check 12 0 named ∷ []
@@ -135,9 +131,9 @@ abbrev pub place_in : Gap → ℕ
 place_in (At a) = a
 place_in Full = 0
 
--- "sets every word of the region to zero, and starts routine 1"; request 7: "The runner's session record gains the window"; request 5: its owner
-abbrev pub opens : ℕ → ℕ → Window → ℕ → Cpu → ℕ → ℕ → World → Result
-opens slot len v owner c i a w = done i (cleared i (fresh slot a len v owner c) a len w)
+-- "sets every word of the region to zero, and starts routine 1"; request 7: "The runner's session record gains the window"
+abbrev pub opens : ℕ → ℕ → Window → Cpu → ℕ → ℕ → World → Result
+opens slot len v c i a w = done i (cleared i (fresh slot a len v c) a len w)
 
 -- 13 also, request 7: "A window not inside the S words gets 13"
 abbrev pub window_checks : List ℕ → ℕ → ℕ → Window → World → List Check
@@ -148,11 +144,11 @@ window_checks store slot len v w =
     ∷ check 15 0 (found (gap_for w len))
     ∷ [])
 
--- an opening that names its window; request 5: "Each session gets an owner number at opening", and no check looks at it
-unfoldable pub window_open_of : List ℕ → ℕ → ℕ → Window → ℕ → World → Result
-window_open_of store slot len v owner w =
+-- an opening that names its window
+unfoldable pub window_open_of : List ℕ → ℕ → ℕ → Window → World → Result
+window_open_of store slot len v w =
     refusing (window_checks store slot len v w) w
-    (opens slot len v owner (start_of (code_of store (slot_at w.bench.slots slot)) len) (record_for w) (place_in (gap_for w len)) w)
+    (opens slot len v (start_of (code_of store (slot_at w.bench.slots slot)) len) (record_for w) (place_in (gap_for w len)) w)
 
 -- request 7: "older openings have all S words"
 abbrev pub all_shared : World → Window
@@ -161,10 +157,10 @@ all_shared w = record { first = 0; len = w.bench.s }
 abbrev pub open_checks : List ℕ → ℕ → ℕ → World → List Check
 open_checks store slot len w = window_checks store slot len (all_shared w) w
 
-abbrev pub open_of : List ℕ → ℕ → ℕ → ℕ → World → Result
-open_of store slot len owner w = window_open_of store slot len (all_shared w) owner w
+abbrev pub open_of : List ℕ → ℕ → ℕ → World → Result
+open_of store slot len w = window_open_of store slot len (all_shared w) w
 
--- ---- a turn, of a desk: 11, 12, 16
+-- ---- a turn: 11, 12, 16
 
 -- the documented machine, k steps on session i's own code, the shared words of its window and its own region; and the steps done
 abbrev pub ran_of : List ℕ → ℕ → ℕ → World → SessionState
@@ -179,21 +175,21 @@ put i st w =
     replaced i (at_cpu (session_at w i) (cpu_of st)) (session_at w i).base (session_at w i).len st.words w
 
 -- 16: "a turn of more than 65,535 steps"
-abbrev pub turn_checks : List ℕ → ℕ → ℕ → ℕ → World → List Check
-turn_checks store desk i k w = begins store w (open_for w desk i) ++ (check 16 0 (leb k 65535) ∷ [])
+abbrev pub turn_checks : List ℕ → ℕ → ℕ → World → List Check
+turn_checks store i k w = begins store w (open_at w i) ++ (check 16 0 (leb k 65535) ∷ [])
 
-unfoldable pub turn_of : List ℕ → ℕ → ℕ → ℕ → World → Result
-turn_of store desk i k w =
-    refusing (turn_checks store desk i k w) w
+unfoldable pub turn_of : List ℕ → ℕ → ℕ → World → Result
+turn_of store i k w =
+    refusing (turn_checks store i k w) w
     (done (done_of store i k w) (put i (ran_of store i k w) w))
 
--- ---- closing, of a desk: 11, 12
+-- ---- closing: 11, 12
 
 -- "Closing zeroes the region and frees region and record."
-abbrev pub close_checks : List ℕ → ℕ → ℕ → World → List Check
-close_checks store desk i w = begins store w (open_for w desk i)
+abbrev pub close_checks : List ℕ → ℕ → World → List Check
+close_checks store i w = begins store w (open_at w i)
 
-unfoldable pub close_of : List ℕ → ℕ → ℕ → World → Result
-close_of store desk i w =
-    refusing (close_checks store desk i w) w
+unfoldable pub close_of : List ℕ → ℕ → World → Result
+close_of store i w =
+    refusing (close_checks store i w) w
     (done 0 (cleared i no_session (session_at w i).base (session_at w i).len w))

@@ -5,10 +5,10 @@ ghost use Rattle.std.specs.Prelude.{◌≡◌, []};
 ghost use Rattle.basis.specs.Checks.{ruling};
 ghost use Rattle.segment.specs.Judge.{ruling_of};
 ghost use Rattle.sound.specs.Bench.{world_of};
-ghost use Rattle.entry.specs.Entries.{begins, free_slot, owned_by};
+ghost use Rattle.entry.specs.Entries.{begins, free_slot};
 
 use segment::Verdict;
-use sound::{Bench, Session};
+use sound::Bench;
 use sound_test::is_sound;
 
 // Whether a slot passes 12 of a loading.
@@ -20,16 +20,6 @@ pub fn is_free(b: Bench, slot: usize) -> bool
     }
     let sl = b.slots[slot];
     !sl.loaded
-}
-
-// Whether a session that was read passes 12 of a turn or a closing: it is open, and this desk's.
-pub fn is_owned(se: Session, desk: usize) -> bool
-    ensures { result ≡ owned_by desk se }
-{
-    if !se.used {
-        return false;
-    }
-    se.owner == desk
 }
 
 // The verdict of 11, and then of 12, where `named` says whether what the request names passes it.

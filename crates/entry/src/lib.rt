@@ -9,7 +9,7 @@ use sound::Bench;
 mod begun;
 mod written;
 
-pub use begun::{guard, is_free, is_owned};
+pub use begun::{guard, is_free};
 pub use written::{clear, clear_words, with_session};
 
 // What an entry answers: the steps done, the session's number, or 0; or a refusal's number and place.

@@ -5,16 +5,16 @@ ghost use Rattle.sound.specs.Bench.{world_of};
 ghost use Rattle.entry.specs.Answer.{result_of};
 ghost use Rattle.entry.specs.Entries.{close_of};
 
-use entry::{Answer, Out, clear, guard, is_owned, refuse};
+use entry::{Answer, Out, clear, guard, refuse};
 use segment::Verdict;
 use sound::{Bench, no_session, session_at};
 
-// Session i, which is the desk's. Refusals 11, 12.
-pub fn close(b: Bench, memory: &mut [u16], store: &[u8], desk: usize, i: usize) -> Out
-    ensures { result_of result memory.new ≡ close_of store.now desk i (world_of b memory.old) }
+// Session i. Refusals 11, 12.
+pub fn close(b: Bench, memory: &mut [u16], store: &[u8], i: usize) -> Out
+    ensures { result_of result memory.new ≡ close_of store.now i (world_of b memory.old) }
 {
     let se = session_at(b, i);
-    let v = guard(b, memory, store, is_owned(se, desk));
+    let v = guard(b, memory, store, se.used);
     if let Verdict::Refused { number, place } = v {
         return refuse(b, number, place);
     }

@@ -1,4 +1,4 @@
-// Opening a session for a desk, its owner: the lowest unused record, the lowest gap that fits, every word of it zero, and a window of the shared words.
+// Opening a session: the lowest unused record, the lowest gap that fits, every word of it zero, and a window of the shared words.
 // Above: `bench`, by which programs call it. Below: gaps, entry (the guard, and words set to zero), session for the start, sound.
 ghost use Rattle.std.specs.Prelude.{◌≡◌};
 ghost use Rattle.sound.specs.Bench.{world_of};
@@ -26,7 +26,7 @@ fn len_ok(code: &[u8], len: usize) -> bool
     )
 }
 
-// A session of len words on a slot, which sees the window and is the owner's. Refusals 11, 12, 13, 14, 15.
+// A session of len words on a slot, which sees the window. Refusals 11, 12, 13, 14, 15.
 pub fn open_window(
     b: Bench,
     memory: &mut [u16],
@@ -34,9 +34,8 @@ pub fn open_window(
     slot: usize,
     len: usize,
     window: Window,
-    owner: usize,
 ) -> Out
-    ensures { result_of result memory.new ≡ window_open_of store.now slot len window owner (world_of b memory.old) }
+    ensures { result_of result memory.new ≡ window_open_of store.now slot len window (world_of b memory.old) }
 {
     let sl = slot_at(b, slot);
     let v = guard(b, memory, store, sl.loaded);
@@ -56,7 +55,7 @@ pub fn open_window(
     let gap = gap_for(sessions, b.s, b.n, len);
     match gap {
         Gap::At(a) => {
-            let se = Session::fresh(slot, a, len, window, owner, start_cpu(code, len));
+            let se = Session::fresh(slot, a, len, window, start_cpu(code, len));
             let out = clear(b, memory, i, se, a, len);
             Out {
                 answer: Answer::Done(i as u32),
@@ -68,16 +67,9 @@ pub fn open_window(
 }
 
 // The older opening: a session that sees all S words.
-pub fn open_session(
-    b: Bench,
-    memory: &mut [u16],
-    store: &[u8],
-    slot: usize,
-    len: usize,
-    owner: usize,
-) -> Out
-    ensures { result_of result memory.new ≡ open_of store.now slot len owner (world_of b memory.old) }
+pub fn open_session(b: Bench, memory: &mut [u16], store: &[u8], slot: usize, len: usize) -> Out
+    ensures { result_of result memory.new ≡ open_of store.now slot len (world_of b memory.old) }
 {
     let all = Window { first: 0, len: b.s };
-    open_window(b, memory, store, slot, len, all, owner)
+    open_window(b, memory, store, slot, len, all)
 }

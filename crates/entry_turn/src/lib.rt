@@ -6,7 +6,7 @@ ghost use Rattle.entry.specs.Answer.{result_of};
 ghost use Rattle.entry.specs.Entries.{turn_of};
 
 use bounds::code_of;
-use entry::{Answer, Out, guard, is_owned, refuse, with_session};
+use entry::{Answer, Out, guard, refuse, with_session};
 use segment::Verdict;
 use session::run;
 use sound::{Bench, session_at, slot_at};
@@ -19,12 +19,12 @@ fn steps_done(n: usize) -> Answer
     Answer::Done(n as u32)
 }
 
-// k steps of session i, which is the desk's. Refusals 11, 12, 16.
-pub fn turn(b: Bench, memory: &mut [u16], store: &[u8], desk: usize, i: usize, k: u64) -> Out
-    ensures { result_of result memory.new ≡ turn_of store.now desk i k (world_of b memory.old) }
+// k steps of session i. Refusals 11, 12, 16.
+pub fn turn(b: Bench, memory: &mut [u16], store: &[u8], i: usize, k: u64) -> Out
+    ensures { result_of result memory.new ≡ turn_of store.now i k (world_of b memory.old) }
 {
     let se = session_at(b, i);
-    let v = guard(b, memory, store, is_owned(se, desk));
+    let v = guard(b, memory, store, se.used);
     if let Verdict::Refused { number, place } = v {
         return refuse(b, number, place);
     }

@@ -18,12 +18,12 @@ fn found(r: Found) -> Answer {
     }
 }
 
-// One request: 0 finds the range of a farm, any other opens a session of 1,000 words for it on slot 0, which is desk 7's.
+// One request: 0 finds the range of a farm, any other opens a session of 1,000 words for it on slot 0.
 fn ask(b: Bench, memory: &mut [u16], store: &[u8], what: u64, farm: u16) -> Answer {
     if what == 0 {
         return found(archive::range(b, memory, store, farm));
     }
-    let out = archive::open_farm(b, memory, store, 0, 1000, farm, 7);
+    let out = archive::open_farm(b, memory, store, 0, 1000, farm);
     out.answer
 }
 

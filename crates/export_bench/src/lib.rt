@@ -2,9 +2,6 @@
 // Below: `bench`. A new entry is timed by one arm of `ask` and one row of the table in speed/entries.c.
 use bench::{Answer, Bench, Out};
 
-// The desk that owns every session and asks for every turn.
-const DESK: usize = 7;
-
 // One more where the request was not refused: the caller can tell that it timed what it meant to.
 fn counted(done: u64, answer: Answer) -> u64 {
     match answer {
@@ -30,7 +27,7 @@ fn opened(b: Bench, memory: &mut [u16], store: &[u8], sessions: usize, len: usiz
     let mut now = b;
     let mut i: usize = 0;
     while i < sessions {
-        let out = bench::open_session(now, memory, store, 0, len, DESK);
+        let out = bench::open_session(now, memory, store, 0, len);
         now = out.bench;
         i += 1;
     }
@@ -40,10 +37,10 @@ fn opened(b: Bench, memory: &mut [u16], store: &[u8], sessions: usize, len: usiz
 // One request: 0 opens a session of n words on slot 0, 1 closes session 0, 2 loads slot 15, any other is a turn of n steps of session 0.
 fn ask(b: Bench, memory: &mut [u16], store: &[u8], what: u64, n: u64) -> Out {
     match what {
-        0 => bench::open_session(b, memory, store, 0, n as usize, DESK),
-        1 => bench::close(b, memory, store, DESK, 0),
+        0 => bench::open_session(b, memory, store, 0, n as usize),
+        1 => bench::close(b, memory, store, 0),
         2 => bench::load(b, memory, store, 15, 0, store.len()),
-        _ => bench::turn(b, memory, store, DESK, 0, n),
+        _ => bench::turn(b, memory, store, 0, n),
     }
 }
 

@@ -24,7 +24,7 @@ fn asked(tape: &[u8], c: Cut) -> Outcome {
         return w;
     }
     let form = forms::named(tape);
-    if forms::of_console(form) {
+    if forms::on_bench(form) {
         return no_bench(row(tape, 0));
     }
     follow(form, tape, behind(c.words))

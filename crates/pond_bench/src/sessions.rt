@@ -15,13 +15,12 @@ pub fn open(
     memory: &mut [u16],
     store: &[u8],
     book: &mut [u8],
-    desk: usize,
     slot: u64,
     words: u64,
     name: &[u8],
 ) -> Next {
-    let out = bench::open_session(b, memory, store, slot as usize, words as usize, desk);
-    answered(out, memory, book, desk, slot, name, View::All)
+    let out = bench::open_session(b, memory, store, slot as usize, words as usize);
+    answered(out, memory, book, slot, name, View::All)
 }
 
 pub fn open_for(
@@ -29,14 +28,13 @@ pub fn open_for(
     memory: &mut [u16],
     store: &[u8],
     book: &mut [u8],
-    desk: usize,
     slot: u64,
     words: u64,
     name: &[u8],
     farm: u16,
 ) -> Next {
-    let out = archive::open_farm(b, memory, store, slot as usize, words as usize, farm, desk);
-    answered(out, memory, book, desk, slot, name, View::Farm(farm))
+    let out = archive::open_farm(b, memory, store, slot as usize, words as usize, farm);
+    answered(out, memory, book, slot, name, View::Farm(farm))
 }
 
 pub fn open_window(
@@ -44,7 +42,6 @@ pub fn open_window(
     memory: &mut [u16],
     store: &[u8],
     book: &mut [u8],
-    desk: usize,
     slot: u64,
     words: u64,
     name: &[u8],
@@ -59,32 +56,23 @@ pub fn open_window(
         words as usize,
         first as usize,
         count as usize,
-        desk,
     );
-    answered(out, memory, book, desk, slot, name, View::Window)
+    answered(out, memory, book, slot, name, View::Window)
 }
 
 // What an opening answered: the session's lines, and its name and what it was opened for into the book; or the refusal.
-fn answered(
-    out: Out,
-    memory: &[u16],
-    book: &mut [u8],
-    desk: usize,
-    slot: u64,
-    name: &[u8],
-    view: View,
-) -> Next {
+fn answered(out: Out, memory: &[u16], book: &mut [u8], slot: u64, name: &[u8], view: View) -> Next {
     let answer = out.answer;
     let bench = out.bench;
     let outcome = match answer {
-        Answer::Done(i) => opened(bench, book, desk, i as usize, name, view),
+        Answer::Done(i) => opened(bench, book, i as usize, name, view),
         Answer::Refused(number, place) => not_opened(bench, memory, slot, number, place),
     };
     Next { bench, outcome }
 }
 
-fn opened(b: Bench, book: &mut [u8], desk: usize, i: usize, name: &[u8], view: View) -> Outcome {
-    pond_rows::put_session(book, i, desk, name);
+fn opened(b: Bench, book: &mut [u8], i: usize, name: &[u8], view: View) -> Outcome {
+    pond_rows::put(book, pond_rows::session_row(i), name);
     pond_rows::put_view(book, i, view);
     let o = state(b, book, i);
     pond_windows::opened(pond_windows::seen_by(book, told::record(b, i), i));
@@ -98,28 +86,21 @@ fn not_opened(b: Bench, memory: &[u16], slot: u64, number: u8, place: u16) -> Ou
     refusals::not_loaded(number, place, slot)
 }
 
-// `session 0 north: slot 0 north, 32 words, ready, from north.seg`
+// `session 0 north: slot 0 north, words 8 to 107 of memory, ready, from north.seg`
 fn state(b: Bench, book: &[u8], i: usize) -> Outcome {
     let se = told::record(b, i);
     told::session(book, i);
     pond_say::text(b": ");
     told::slot_of(book, se.slot);
-    say(b", # words, ", se.len as u64, 0, 0);
+    told::span(b", words # to # of memory, ", se.base, se.len);
     told::stands(book, se);
     Outcome::Done
 }
 
 // A session's fault is told and is no failure of this command.
-pub fn show(
-    b: Bench,
-    memory: &[u16],
-    store: &[u8],
-    book: &[u8],
-    desk: usize,
-    session: u64,
-) -> Outcome {
+pub fn show(b: Bench, memory: &[u16], store: &[u8], book: &[u8], session: u64) -> Outcome {
     let i = session as usize;
-    let se = told::own(b, desk, i);
+    let se = told::record(b, i);
     if !se.used {
         return refusals::of_session(12, 0, session);
     }
@@ -144,23 +125,16 @@ fn registers(r: Regs) {
     say(rest, r.routine as u64, 0, 0);
 }
 
-pub fn close(
-    b: Bench,
-    memory: &mut [u16],
-    store: &[u8],
-    book: &mut [u8],
-    desk: usize,
-    session: u64,
-) -> Next {
+pub fn close(b: Bench, memory: &mut [u16], store: &[u8], book: &mut [u8], session: u64) -> Next {
     let i = session as usize;
-    let se = told::own(b, desk, i);
-    let out = bench::close(b, memory, store, desk, i);
+    let se = told::record(b, i);
+    let out = bench::close(b, memory, store, i);
     let answer = out.answer;
     let bench = out.bench;
     let outcome = match answer {
         Answer::Done(_) => {
-            closed(book, i, se.len);
-            pond_rows::forget_session(book, i);
+            closed(book, i, se.base, se.len);
+            pond_rows::put(book, pond_rows::session_row(i), b"");
             pond_rows::put_view(book, i, View::All);
             Outcome::Done
         }
@@ -169,7 +143,7 @@ pub fn close(
     Next { bench, outcome }
 }
 
-fn closed(book: &[u8], i: usize, len: usize) {
+fn closed(book: &[u8], i: usize, base: usize, len: usize) {
     told::session(book, i);
-    say(b": closed, its # words are free\n", len as u64, 0, 0);
+    told::span(b": closed, words # to # are free\n", base, len);
 }

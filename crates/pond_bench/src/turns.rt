@@ -27,15 +27,14 @@ pub fn turn(
     memory: &mut [u16],
     store: &[u8],
     book: &[u8],
-    desk: usize,
     session: u64,
     steps: u64,
 ) -> Next {
     let i = session as usize;
-    let out = bench::turn(b, memory, store, desk, i, 0);
+    let out = bench::turn(b, memory, store, i, 0);
     let answer = out.answer;
     match answer {
-        Answer::Done(_) => turned(b, memory, store, book, desk, i, steps),
+        Answer::Done(_) => turned(b, memory, store, book, i, steps),
         Answer::Refused(number, place) => Next {
             bench: b,
             outcome: refusals::of_session(number, place, session),
@@ -43,16 +42,8 @@ pub fn turn(
     }
 }
 
-fn turned(
-    b: Bench,
-    memory: &mut [u16],
-    store: &[u8],
-    book: &[u8],
-    desk: usize,
-    i: usize,
-    steps: u64,
-) -> Next {
-    let went = all(b, memory, store, desk, i, steps);
+fn turned(b: Bench, memory: &mut [u16], store: &[u8], book: &[u8], i: usize, steps: u64) -> Next {
+    let went = all(b, memory, store, i, steps);
     let after = went.bench;
     let se = told::record(after, i);
     ended(book, i, went.steps, se);
@@ -88,12 +79,12 @@ pub fn ended(book: &[u8], i: usize, steps: u64, se: Session) {
 }
 
 // Turns, one after another, until the steps are done or the session does none.
-pub fn all(b: Bench, memory: &mut [u16], store: &[u8], desk: usize, i: usize, steps: u64) -> Went {
+pub fn all(b: Bench, memory: &mut [u16], store: &[u8], i: usize, steps: u64) -> Went {
     let mut bench = b;
     let mut left = steps;
     let mut done: u64 = 0;
     while left > 0 {
-        let went = one(bench, memory, store, desk, i, share(left, done));
+        let went = one(bench, memory, store, i, share(left, done));
         bench = went.bench;
         let n = went.steps;
         left = rest(left, n);
@@ -103,8 +94,8 @@ pub fn all(b: Bench, memory: &mut [u16], store: &[u8], desk: usize, i: usize, st
     Went { bench, steps: done }
 }
 
-fn one(b: Bench, memory: &mut [u16], store: &[u8], desk: usize, i: usize, k: u64) -> Went {
-    let out = bench::turn(b, memory, store, desk, i, k);
+fn one(b: Bench, memory: &mut [u16], store: &[u8], i: usize, k: u64) -> Went {
+    let out = bench::turn(b, memory, store, i, k);
     let answer = out.answer;
     let bench = out.bench;
     match answer {

@@ -22,19 +22,18 @@ pub fn step(
     memory: &mut [u16],
     store: &[u8],
     book: &[u8],
-    desk: usize,
     session: u64,
     steps: u64,
 ) -> Next {
     let i = session as usize;
-    let se = told::own(b, desk, i);
+    let se = told::record(b, i);
     if !se.used {
         return Next {
             bench: b,
             outcome: refusals::of_session(12, 0, session),
         };
     }
-    let bench = all(b, memory, store, desk, i, steps);
+    let bench = all(b, memory, store, i, steps);
     let after = told::record(bench, i);
     told::session(book, i);
     pond_say::text(b": ");
@@ -54,11 +53,11 @@ fn ended(se: Session) {
     pond_say::end();
 }
 
-fn all(b: Bench, memory: &mut [u16], store: &[u8], desk: usize, i: usize, steps: u64) -> Bench {
+fn all(b: Bench, memory: &mut [u16], store: &[u8], i: usize, steps: u64) -> Bench {
     let mut bench = b;
     let mut left = steps;
     while left > 0 {
-        let went = one(bench, memory, store, desk, i);
+        let went = one(bench, memory, store, i);
         bench = went.bench;
         left = rest(left, went.done);
     }
@@ -82,13 +81,13 @@ fn rest(left: u64, done: bool) -> u64
 }
 
 // The instruction's line and the top of the stack, then the step, and the top of the stack behind it.
-fn one(b: Bench, memory: &mut [u16], store: &[u8], desk: usize, i: usize) -> Stepped {
+fn one(b: Bench, memory: &mut [u16], store: &[u8], i: usize) -> Stepped {
     let se = told::record(b, i);
     let cpu = se.cpu;
     let kind = cpu.kind;
     if let Kind::Ready = kind {
         before(b, memory, store, se);
-        return done(b, memory, store, desk, i);
+        return done(b, memory, store, i);
     }
     Stepped {
         bench: b,
@@ -104,8 +103,8 @@ fn before(b: Bench, memory: &[u16], store: &[u8], se: Session) {
     top(memory, se);
 }
 
-fn done(b: Bench, memory: &mut [u16], store: &[u8], desk: usize, i: usize) -> Stepped {
-    let out = bench::turn(b, memory, store, desk, i, 1);
+fn done(b: Bench, memory: &mut [u16], store: &[u8], i: usize) -> Stepped {
+    let out = bench::turn(b, memory, store, i, 1);
     let bench = out.bench;
     let answer = out.answer;
     pond_say::text(b" -> ");

@@ -2,8 +2,6 @@
 // Above it: the program. Below it: a line heard, and the commands.
 ghost use Rattle.std.specs.Prelude.{◌-◌, ◌≤◌};
 
-use crate::desks;
-use crate::desks::Desk;
 use libc::STDIN_FILENO;
 use pond_lines::heard::Heard;
 use pond_lines::{heard, stops};
@@ -12,12 +10,11 @@ use pond_say::Outcome;
 use pond_words::forms;
 use sound::Bench;
 
-// The bench after a line, what a script goes on after and which desk the console is from there on, the line's status, and whether another line may follow.
+// The bench after a line, what a script goes on after from there on, the line's status, and whether another line may follow.
 #[derive(Drop)]
 struct After {
     bench: Bench,
     keep: u8,
-    desk: usize,
     status: u8,
     more: bool,
 }
@@ -55,18 +52,16 @@ pub fn script() {
 }
 
 // A proved loop has to end, and nothing says that the input does. So the loop counts its turns
-// down, from a number that no run uses up. The status is that of the gravest failure. It begins as desk 0.
+// down, from a number that no run uses up. The status is that of the gravest failure.
 fn lines(b: Bench, memory: &mut [u16], store: &mut [u8], book: &mut [u8], typed: bool) -> u8 {
     let mut bench = b;
     let mut keep: u8 = 0;
-    let mut desk: usize = 0;
     let mut status: u8 = 0;
     let mut turns = u64::MAX;
     while turns > 0 {
-        let after = one_line(bench, memory, store, book, typed, keep, desk, turns);
+        let after = one_line(bench, memory, store, book, typed, keep, turns);
         bench = after.bench;
         keep = after.keep;
-        desk = after.desk;
         status = stops::worse(status, after.status);
         turns = fewer(turns, after.more);
     }
@@ -94,20 +89,17 @@ fn one_line(
     book: &mut [u8],
     typed: bool,
     keep: u8,
-    desk: usize,
     left: u64,
 ) -> After {
     let mut tape = pond_rows::tape();
     let h = heard::line(typed, &mut tape, keep);
-    let mine = desks::after(h.form, &tape, h.n, desk);
-    let next = obeyed(b, memory, store, book, &tape, h, mine);
+    let next = obeyed(b, memory, store, book, &tape, h);
     let bench = next.bench;
     let outcome = next.outcome;
     let s = stops::settled(outcome, typed, h.keep, left, h.more);
     After {
         bench,
         keep: h.keep,
-        desk: mine.number,
         status: s.status,
         more: s.more,
     }
@@ -120,20 +112,20 @@ fn obeyed(
     book: &mut [u8],
     tape: &[u8],
     h: Heard,
-    mine: Desk,
 ) -> Next {
     if forms::on_bench(h.form) {
-        return pond_deeds::follow(h.form, b, memory, store, book, mine.number, tape, h.n);
+        return pond_deeds::follow(h.form, b, memory, store, book, tape, h.n);
     }
-    let outcome = apart(h, tape, mine);
-    Next { bench: b, outcome }
+    Next {
+        bench: b,
+        outcome: apart(h, tape),
+    }
 }
 
 // A command that needs no bench, or a line that is none.
-fn apart(h: Heard, tape: &[u8], mine: Desk) -> Outcome {
+fn apart(h: Heard, tape: &[u8]) -> Outcome {
     let form = h.form;
     match form {
-        forms::DESK => mine.outcome,
         heard::NOTHING => Outcome::Done,
         heard::WRONG => Outcome::Typing,
         heard::FAILED => Outcome::File,

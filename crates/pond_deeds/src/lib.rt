@@ -6,19 +6,18 @@ use pond_say::Outcome;
 use pond_words::{Deed, Given};
 use sound::Bench;
 
-// The command on the tape, with n words behind its verb, as this desk asks it. A new bench is made over all of the memory, and every other command is
-// lent the bench's own words.
+// The command on the tape, with n words behind its verb. A new bench is made over all of the memory, and every other command is lent the
+// bench's own words.
 pub fn follow(
     form: u8,
     b: Bench,
     memory: &mut [u16],
     store: &mut [u8],
     book: &mut [u8],
-    desk: usize,
     tape: &[u8],
     n: u8,
 ) -> Next {
-    let d = pond_words::read(form, book, desk, tape, n);
+    let d = pond_words::read(form, book, tape, n);
     if let Deed::Bench(n, s) = d {
         return pond_slots::new_bench(b, memory, book, n, s);
     }
@@ -27,7 +26,7 @@ pub fn follow(
     }
     let words = b.n;
     if words <= memory.len() {
-        return lent(d, b, &mut memory[0..words], store, book, desk, tape);
+        return lent(d, b, &mut memory[0..words], store, book, tape);
     }
     kept(b, Outcome::Done)
 }
@@ -43,7 +42,6 @@ fn lent(
     memory: &mut [u16],
     store: &mut [u8],
     book: &mut [u8],
-    desk: usize,
     tape: &[u8],
 ) -> Next {
     match d {
@@ -54,14 +52,14 @@ fn lent(
             pond_slots::load_named(b, memory, store, book, row(tape, 1), row(tape, 2))
         }
         Deed::Open(_, _, _) | Deed::OpenFor(_, _, _, _) | Deed::OpenWindow(_, _, _, _, _) => {
-            opened(d, b, memory, store, book, desk, tape)
+            opened(d, b, memory, store, book, tape)
         }
-        Deed::Turn(s, steps) => pond_bench::turn(b, memory, store, book, desk, s, steps),
-        Deed::Close(s) => pond_bench::close(b, memory, store, book, desk, s),
-        Deed::Step(s, steps) => pond_closer::step(b, memory, store, book, desk, s, steps),
+        Deed::Turn(s, steps) => pond_bench::turn(b, memory, store, book, s, steps),
+        Deed::Close(s) => pond_bench::close(b, memory, store, book, s),
+        Deed::Step(s, steps) => pond_closer::step(b, memory, store, book, s, steps),
         Deed::Fill => kept(b, pond_slots::fill(b, memory, book, row(tape, 1))),
         Deed::Records => kept(b, pond_archive::records(b, memory, book, row(tape, 1))),
-        _ => kept(b, seen(d, b, memory, store, book, desk, row(tape, 2))),
+        _ => kept(b, seen(d, b, memory, store, book, row(tape, 2))),
     }
 }
 
@@ -71,46 +69,34 @@ fn opened(
     memory: &mut [u16],
     store: &[u8],
     book: &mut [u8],
-    desk: usize,
     tape: &[u8],
 ) -> Next {
     match d {
         Deed::Open(slot, words, name) => {
-            pond_bench::open(b, memory, store, book, desk, slot, words, row(tape, name))
+            pond_bench::open(b, memory, store, book, slot, words, row(tape, name))
         }
         Deed::OpenFor(slot, words, name, farm) => {
-            let called = row(tape, name);
-            pond_bench::open_for(b, memory, store, book, desk, slot, words, called, farm)
+            pond_bench::open_for(b, memory, store, book, slot, words, row(tape, name), farm)
         }
         Deed::OpenWindow(slot, words, name, first, count) => {
             let called = row(tape, name);
-            pond_bench::open_window(
-                b, memory, store, book, desk, slot, words, called, first, count,
-            )
+            pond_bench::open_window(b, memory, store, book, slot, words, called, first, count)
         }
         _ => kept(b, Outcome::Typing),
     }
 }
 
 // The commands that change nothing. The last word is the file of one that writes it.
-fn seen(
-    d: Deed,
-    b: Bench,
-    memory: &[u16],
-    store: &[u8],
-    book: &[u8],
-    desk: usize,
-    file: &[u8],
-) -> Outcome {
+fn seen(d: Deed, b: Bench, memory: &[u16], store: &[u8], book: &[u8], file: &[u8]) -> Outcome {
     match d {
-        Deed::Show(s) => shown(b, memory, store, book, desk, s),
-        Deed::Words(s, p) => pond_bench::words(b, memory, book, desk, s, wanted(p)),
+        Deed::Show(s) => shown(b, memory, store, book, s),
+        Deed::Words(s, p) => pond_bench::words(b, memory, book, s, wanted(p)),
         Deed::Shared(p) => pond_bench::shared(b, memory, wanted(p)),
         Deed::Archive => pond_archive::archive(b, memory, store),
         Deed::Farm(farm) => pond_archive::farm(b, memory, store, farm),
-        Deed::Save(s) => pond_save::save(b, memory, book, desk, s, file),
+        Deed::Save(s) => pond_save::save(b, memory, book, s, file),
         Deed::Map => {
-            pond_bench::map(b, book, desk);
+            pond_bench::map(b, book);
             Outcome::Done
         }
         Deed::Slots => {
@@ -131,16 +117,8 @@ fn wanted(p: Given) -> Wanted {
     }
 }
 
-// Of another desk's session nothing is told behind the refusal.
-fn shown(
-    b: Bench,
-    memory: &[u16],
-    store: &[u8],
-    book: &[u8],
-    desk: usize,
-    session: u64,
-) -> Outcome {
-    let o = pond_bench::show(b, memory, store, book, desk, session);
+fn shown(b: Bench, memory: &[u16], store: &[u8], book: &[u8], session: u64) -> Outcome {
+    let o = pond_bench::show(b, memory, store, book, session);
     if pond_say::went(o) {
         pond_closer::closer(b, memory, store, session);
     }

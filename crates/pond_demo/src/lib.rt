@@ -1,17 +1,17 @@
-// `demo`: two farms on one bench with an archive of records, a report that takes one record too many, the accident of last spring tried again, and the partner's
-// desk on the same bench. It needs no file, and what it prints is what the same commands print on the files of examples/. Its refusals are shown on purpose.
+// `demo`: two farms on one bench with an archive of records, a report that takes one record too many, and the accident of last spring tried again. It needs no
+// file, and what it prints is what the same commands print on the files of examples/.
 // Above it: the console. Below it: the other commands, as they are: a line is shown, and then done.
 mod bytes;
 mod lines;
 
-use pond_look::{Wanted, told};
+use pond_look::Wanted;
 use pond_phrases::piece;
 use pond_slots::loads;
 use sound::Bench;
 use text::front;
 
 pub fn demo() {
-    let mut memory = [0u16; 300];
+    let mut memory = [0u16; 250];
     let mut book = pond_rows::book();
     let store = bytes::STORE;
     let out = bench::new_bench(0, 0);
@@ -21,7 +21,7 @@ pub fn demo() {
 fn shown(b: Bench, memory: &mut [u16], book: &mut [u8], store: &[u8]) {
     let mut bench = b;
     let mut k: u8 = 0;
-    while k < 36 {
+    while k < 26 {
         lines::say(k);
         bench = done(bench, memory, book, store, k);
         k += 1;
@@ -34,21 +34,12 @@ fn done(b: Bench, memory: &mut [u16], book: &mut [u8], store: &[u8], k: u8) -> B
         0 => made(b, memory, book),
         2 | 3 | 12 | 18 | 21 => loaded(b, memory, store, book, slot_of(k)),
         13 => open_all(b, memory, store, book, k),
-        4 | 5 | 16 | 19 | 22 | 30 => open_for(b, memory, store, book, k),
-        6..=9 | 14 | 17 | 20 | 23 | 28 | 31 => ran(b, memory, store, book, k),
-        29 => closed(b, memory, store, book, k),
+        4 | 5 | 16 | 19 | 22 => open_for(b, memory, store, book, k),
+        6..=9 | 14 | 17 | 20 | 23 => ran(b, memory, store, book, k),
         _ => {
             seen(b, memory, store, book, k);
             b
         }
-    }
-}
-
-// The desk that asks on line k, or that the line makes it: the partner's is 1.
-fn desk(k: u8) -> usize {
-    match k {
-        26..=32 => 1,
-        _ => 0,
     }
 }
 
@@ -60,7 +51,6 @@ fn whose(k: u8) -> u8 {
         16 | 17 => 3,
         19 | 20 => 4,
         22 | 23 => 5,
-        30..=32 => 6,
         _ => 1,
     }
 }
@@ -69,7 +59,7 @@ fn whose(k: u8) -> u8 {
 fn slot_of(k: u8) -> u8 {
     match k {
         2 | 4 => 0,
-        3 | 5 | 30 => 1,
+        3 | 5 => 1,
         12 | 13 | 16 => 2,
         18 | 19 => 3,
         _ => 4,
@@ -91,17 +81,13 @@ fn seen(b: Bench, memory: &[u16], store: &[u8], book: &[u8], k: u8) {
             pond_archive::archive(b, memory, store);
         }
         15 => {
-            pond_look::words(b, memory, book, desk(k), 2, Wanted::Part(6, 1));
+            pond_look::words(b, memory, book, 2, Wanted::Part(6, 1));
         }
-        25 | 27 | 35 => {
-            pond_look::map(b, book, desk(k));
-        }
-        26 | 33 => {
-            told::desk(desk(k));
+        25 => {
+            pond_look::map(b, book);
         }
         _ => {
-            let session = whose(k) as u64;
-            pond_look::words(b, memory, book, desk(k), session, Wanted::Part(6, 3));
+            pond_look::words(b, memory, book, whose(k) as u64, Wanted::Part(6, 3));
         }
     }
 }
@@ -112,7 +98,7 @@ fn made(b: Bench, memory: &mut [u16], book: &mut [u8]) -> Bench {
     let text = bytes::FARMS;
     let s = pond_sheet::read(b"farms.csv", &text, &mut room);
     let n = pond_archive::eight(s.count);
-    let next = pond_archive::made(b, memory, book, 300, b"farms.csv", front(&room, n));
+    let next = pond_archive::made(b, memory, book, 250, b"farms.csv", front(&room, n));
     next.bench
 }
 
@@ -156,35 +142,26 @@ fn len(i: u8) -> usize {
 
 // On line 13, where the report sees all shared words.
 fn open_all(b: Bench, memory: &mut [u16], store: &[u8], book: &mut [u8], k: u8) -> Bench {
-    let slot = slot_of(k) as u64;
-    let next = pond_bench::open(b, memory, store, book, desk(k), slot, 32, b"before");
+    let next = pond_bench::open(b, memory, store, book, slot_of(k) as u64, 32, b"before");
     next.bench
 }
 
 fn open_for(b: Bench, memory: &mut [u16], store: &[u8], book: &mut [u8], k: u8) -> Bench {
-    let name = piece(
-        b"north|south|before|after|stale|zero|south",
-        whose(k) as usize,
-    );
+    let name = piece(b"north|south|before|after|stale|zero", whose(k) as usize);
     let slot = slot_of(k) as u64;
-    let next = pond_bench::open_for(b, memory, store, book, desk(k), slot, 32, name, farm(k));
+    let next = pond_bench::open_for(b, memory, store, book, slot, 32, name, farm(k));
     next.bench
 }
 
-// North, but for South's own session and the partner's.
+// North, but for South's own session.
 fn farm(k: u8) -> u16 {
-    match k {
-        5 | 30 => 17,
-        _ => 12,
+    if k == 5 {
+        return 17;
     }
+    12
 }
 
 fn ran(b: Bench, memory: &mut [u16], store: &[u8], book: &[u8], k: u8) -> Bench {
-    let next = pond_bench::turn(b, memory, store, book, desk(k), whose(k) as u64, steps(k));
-    next.bench
-}
-
-fn closed(b: Bench, memory: &mut [u16], store: &[u8], book: &mut [u8], k: u8) -> Bench {
-    let next = pond_bench::close(b, memory, store, book, desk(k), whose(k) as u64);
+    let next = pond_bench::turn(b, memory, store, book, whose(k) as u64, steps(k));
     next.bench
 }

@@ -1,23 +1,12 @@
 // The lines of the demo as they would be typed, remarks before them.
 // Above it: the demo. Below it: how the console speaks.
 
-// The line with which the partner's desk begins.
-const PARTNER: u8 = 26;
-
 // Shows line k, and the remarks before it.
 pub fn say(k: u8) {
-    if k < PARTNER {
-        two_farms(k);
-    } else {
-        partner(k - PARTNER);
-    }
-}
-
-fn two_farms(k: u8) {
     pond_say::text(pond_phrases::piece(
         b"# Two farms, North and South, on one bench. Its shared words are an archive of ammonia readings, a record of four words\n\
           # for each: farm, pond, day and concentration. North is farm 12, South is farm 17.\n\
-          > bench 300 records farms.csv\n|\
+          > bench 250 records farms.csv\n|\
           > archive\n|\
           > load north north.seg\n|> load south south.seg\n|\
           # A session that is opened for a farm sees that farm's records and no others.\n\
@@ -44,26 +33,6 @@ fn two_farms(k: u8) {
           > open zero writes 32 for 12\n|\
           > turn zero 1000\n|\
           # South's words are as they were.\n\
-          > words south 6 3\n|\
-          > map\n",
-        k as usize,
-    ));
-}
-
-fn partner(k: u8) {
-    pond_say::text(pond_phrases::piece(
-        b"# A partner's desk uses the same bench. It sees the shared words and the slots, and nothing of desk 0's sessions.\n\
-          > desk 1\n|\
-          > map\n|\
-          # South's session has number 1. At this desk it can be neither run nor closed: it is as if it were not open.\n\
-          > turn 1 1000\n|\
-          > close 1\n|\
-          # A session of its own on the same slot, under the same name:\n\
-          > open south south 32 for 17\n|\
-          > turn south 1000\n|\
-          > words south 6 3\n|\
-          # Back at desk 0 everything is as it was.\n\
-          > desk 0\n|\
           > words south 6 3\n|\
           > map\n",
         k as usize,

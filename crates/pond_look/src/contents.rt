@@ -22,16 +22,9 @@ struct Stretch {
 }
 
 // The session's words by its own addresses, which begin at 1: 0 is NIL.
-pub fn words(
-    b: Bench,
-    memory: &[u16],
-    book: &[u8],
-    desk: usize,
-    session: u64,
-    wanted: Wanted,
-) -> Outcome {
+pub fn words(b: Bench, memory: &[u16], book: &[u8], session: u64, wanted: Wanted) -> Outcome {
     let i = session as usize;
-    let se = told::own(b, desk, i);
+    let se = told::record(b, i);
     if !se.used {
         return refusals::of_session(12, 0, session);
     }

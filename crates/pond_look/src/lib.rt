@@ -1,4 +1,4 @@
-// What a desk can see of a bench, and changes nothing: its sessions' words, the map, how deep a stack went, what is told of a refusal, and the phrases for them.
+// What can be seen of a bench, and changes nothing: words, the map, how deep a stack went, what is told of a refusal, and the phrases for them.
 // Above it: what is told of a fault, and the commands that change a bench. Below it: the bench's numbers, and how the console speaks.
 mod contents;
 mod depths;

@@ -2,13 +2,13 @@
 // Above it: the commands on a bench. Below it: the rules, and how the console speaks.
 use pond_say::Outcome;
 
-// A refused command on session i, which has to be open and this desk's. Of another desk's nothing else is said than of one that is not open.
+// A refused command on session i, which has to be open.
 pub fn of_session(number: u8, place: u16, i: u64) -> Outcome {
     refused(
         number,
         place,
         i,
-        b"session # is not open at this desk|session # is not there: they have numbers 0 to 15",
+        b"session # is not open|session # is not there: they have numbers 0 to 15",
     )
 }
 

@@ -13,11 +13,6 @@ pub fn session(book: &[u8], i: usize) {
     named(pond_rows::session_name(book, i));
 }
 
-// `desk 1`, as a line of its own: which desk is asking from there on.
-pub fn desk(number: usize) {
-    say(b"desk #\n", number as u64, 0, 0);
-}
-
 // `slot 0`, or `slot 0 north` where it has a name.
 pub fn slot_of(book: &[u8], i: usize) {
     say(b"slot #", i as u64, 0, 0);
@@ -94,15 +89,6 @@ pub fn record(b: Bench, i: usize) -> Session {
         return sound::no_session();
     }
     b.sessions[i]
-}
-
-// Session record i where it is open and this desk's; else one that is not used, so that a desk learns the same of the other's sessions as of none.
-pub fn own(b: Bench, desk: usize, i: usize) -> Session {
-    let se = record(b, i);
-    if entry::is_owned(se, desk) {
-        return se;
-    }
-    sound::no_session()
 }
 
 // Slot i, or one that is not loaded where there is no such slot.

@@ -70,6 +70,5 @@ fn recorded(number: u8, place: usize) -> Session {
         lowest: 16,
     };
     let window = Window { first: 0, len: 4 };
-    let owner = 0;
-    Session::fresh(0, 4, 16, window, owner, Cpu { kind, regs })
+    Session::fresh(0, 4, 16, window, Cpu { kind, regs })
 }

@@ -1,12 +1,12 @@
-// Rows of bytes: what the console keeps by number, the words of a command on its tape, and in its book the names of sessions (with their owners) and slots, the
+// Rows of bytes: what the console keeps by number, the words of a command on its tape, and in its book the names of sessions and slots, the
 // files of the slots, and what the sessions were opened for. A row has 4,098 bytes: two for its length, least byte first, and as many as the longest word has.
 // Above it: the console's commands. Below it: `bounds`. Every function takes any rows and any numbers.
 mod kept;
 mod names;
-mod owned;
 mod views;
 
 pub use kept::{empty, put, row};
-pub use names::{book, file_of, file_row, find_slot, slot_name, slot_row, tape, view_row};
-pub use owned::{find_session, forget_session, put_session, session_name};
+pub use names::{
+    book, file_of, file_row, find, session_name, session_row, slot_name, slot_row, tape, view_row,
+};
 pub use views::{View, put_view, view_of};

@@ -1,13 +1,8 @@
-// The book, rows 0 to 15 for the owners and names of the sessions, 16 to 31 for those of the slots, 32 to 47 for the slots' files, 48 to 63 for what the sessions
+// The book, rows 0 to 15 for the names of the sessions, 16 to 31 for those of the slots, 32 to 47 for the slots' files, 48 to 63 for what the sessions
 // were opened for; and the tape, the verb and up to 7 words of a command. A name that is not given is a row without bytes.
 // Above it: the console's commands. Below it: rows.
 use crate::kept::row;
 use text::same;
-
-// The first rows of the names of sessions and of slots.
-pub const SESSIONS: usize = 0;
-
-const SLOTS: usize = 16;
 
 // No book has this row.
 const NONE: usize = 64;
@@ -49,17 +44,16 @@ pub fn view_row(i: usize) -> usize {
     48 + i
 }
 
+pub fn session_name(book: &[u8], i: usize) -> &[u8] {
+    row(book, session_row(i))
+}
+
 pub fn slot_name(book: &[u8], i: usize) -> &[u8] {
     row(book, slot_row(i))
 }
 
 pub fn file_of(book: &[u8], i: usize) -> &[u8] {
     row(book, file_row(i))
-}
-
-// The slot that has the name, or 16 where none has. Slots and their names are every desk's.
-pub fn find_slot(book: &[u8], name: &[u8]) -> usize {
-    find(book, SLOTS, name)
 }
 
 // Which of the 16 rows from first on holds the name, counted from 0, or 16 where none does.

@@ -58,7 +58,7 @@ fn rule(number: u8) {
           only a segment without a pool can be turned: its pool pointer, word 7, must be 0\n\
           the output must have room for the whole segment\n\
           the bench must be sound for the memory and the store that it is lent\n\
-          slots and sessions have numbers 0 to 15; the slot must be loaded (for loading: not loaded), the session open and this desk's\n\
+          slots and sessions have numbers 0 to 15; the slot must be loaded (for loading: not loaded), the session open\n\
           a session has 16 to 32768 words, and at least 6 more than the globals that DATASIZE of routine 1 asks; a window must lie inside the shared words\n\
           all 16 session records are in use\n\
           the memory has no gap of that many free words\n\

@@ -15,9 +15,6 @@ const WORDS: usize = 1000;
 
 const STEPS: u64 = 1000000000;
 
-// The desk of a bench that lasts for one run.
-const DESK: usize = 0;
-
 // No session has more words, and no bench more shared ones.
 const MOST: usize = 32768;
 
@@ -214,13 +211,13 @@ fn asked(
     view: View,
 ) -> Next {
     if let View::Farm(farm) = view {
-        return pond_bench::open_for(b, memory, seg, book, DESK, 0, words, b"", farm);
+        return pond_bench::open_for(b, memory, seg, book, 0, words, b"", farm);
     }
-    pond_bench::open(b, memory, seg, book, DESK, 0, words, b"")
+    pond_bench::open(b, memory, seg, book, 0, words, b"")
 }
 
 fn went(b: Bench, memory: &mut [u16], book: &[u8], seg: &[u8], steps: u64) -> Outcome {
-    let all = turns::all(b, memory, seg, DESK, 0, steps);
+    let all = turns::all(b, memory, seg, 0, steps);
     ended(all.bench, memory, book, seg, all.steps)
 }
 
@@ -230,7 +227,7 @@ fn ended(b: Bench, memory: &[u16], book: &[u8], seg: &[u8], steps: u64) -> Outco
     turns::ended(book, 0, steps, se);
     faults::instruction(b, seg, se);
     pond_look::deepest(b, seg, se);
-    pond_look::words(b, memory, book, DESK, 0, Wanted::All);
+    pond_look::words(b, memory, book, 0, Wanted::All);
     let o = faults::reason(b, memory, seg, se, pond_windows::seen_by(book, se, 0));
     turns::stopped(finished(o, se))
 }

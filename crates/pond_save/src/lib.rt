@@ -12,16 +12,9 @@ fn space() -> [u8; 1048576] {
     [0u8; 1048576]
 }
 
-pub fn save(
-    b: Bench,
-    memory: &[u16],
-    book: &[u8],
-    desk: usize,
-    session: u64,
-    file: &[u8],
-) -> Outcome {
+pub fn save(b: Bench, memory: &[u16], book: &[u8], session: u64, file: &[u8]) -> Outcome {
     let i = session as usize;
-    let se = told::own(b, desk, i);
+    let se = told::record(b, i);
     if !se.used {
         return refusals::of_session(12, 0, session);
     }

@@ -137,7 +137,7 @@ fn sizes(seg: &[u8]) {
 // `slots`: a line for each slot that is loaded.
 pub fn slots(b: Bench, store: &[u8], book: &[u8]) {
     let all = b.slots;
-    if pond_windows::lowest_loaded(all) == 16 {
+    if lowest_loaded(all) == 16 {
         pond_say::text(b"no slot is loaded\n");
     }
     let mut i: usize = 0;
@@ -152,4 +152,17 @@ fn of_slot(b: Bench, store: &[u8], book: &[u8], i: usize) {
     if sl.loaded {
         loaded(book, i, bounds::code_of(store, sl.start, sl.len));
     }
+}
+
+// The lowest slot that is loaded, or 16.
+fn lowest_loaded(slots: [Slot; 16]) -> usize {
+    let mut i: usize = 0;
+    while i < 16 {
+        let sl = slots[i];
+        if sl.loaded {
+            return i;
+        }
+        i += 1;
+    }
+    16
 }

@@ -14,8 +14,7 @@ pub fn welcome() {
 pub fn help(command: &[u8]) -> bool {
     let files = on_files(command);
     let bench = on_bench(command);
-    let sessions = on_sessions(command);
-    bounds::either(files, bounds::either(bench, sessions))
+    bounds::either(files, bench)
 }
 
 fn on_files(command: &[u8]) -> bool {
@@ -39,43 +38,33 @@ fn on_files(command: &[u8]) -> bool {
 fn on_bench(command: &[u8]) -> bool {
     chosen(
         b"bench N S                      a new bench of N words, the first S of them shared\n\
-          \x20 All slots, sessions and names before it are gone, those of every desk.\n\
+          \x20 All slots, sessions and names before it are gone.\n\
           \x20 bench N records FILE: as many are shared as the records of a text file take, and they are filled from it.\n\
           fill FILE                      fills shared words, two bytes a word, least byte first\n\
-          \x20 Only before the first load: a session could be open, and another farm's records come to lie in what it sees.\n\
+          \x20 Not while a session is open: another farm's records could come to lie in what it sees.\n\
           records FILE                   fills shared words from a text: a record a line, farm, pond, day, concentration\n\
           \x20 Blanks, tabs, commas or semicolons between the numbers; blank lines, lines that begin with # and one heading are passed over.\n\
           \x20 The lines are in the order of their farm numbers, and the file has just as many records as there is room for: see help bench.\n\
-          \x20 Only before the first load.\n\
+          \x20 Not while a session is open.\n\
           archive [FARM]                 the shared words as an archive: accepted, with its farms, or why not; or one farm's records\n\
           load SLOT FILE                 loads a segment into a slot: 0 to 15, or a name of yours\n\
           \x20 load north north.seg takes the lowest slot that is free and calls it north. A name has at most 24 bytes and is no number.\n\
-          slots                          what is loaded, and from which files\n",
-        command,
-    )
-}
-
-// The commands on sessions, and what belongs to the console itself.
-fn on_sessions(command: &[u8]) -> bool {
-    chosen(
-        b"open [NAME] SLOT WORDS         opens a session of so many words on a loaded slot\n\
-          \x20 open north weekly 32 calls it north, and at this desk every command takes the name for its number. It sees all shared words.\n\
+          slots                          what is loaded, and from which files\n\
+          open [NAME] SLOT WORDS         opens a session of so many words on a loaded slot\n\
+          \x20 open north weekly 32 calls it north, and every command takes the name for its number. It sees all shared words.\n\
           \x20 open north weekly 32 for 12: it sees the records of farm 12 and no others, from address 32768 on.\n\
           \x20 open north weekly 32 window 16 48: it sees the 48 shared words from word 16 on.\n\
           turn SESSION STEPS             runs a session for so many steps, or until it finishes or faults\n\
           \x20 Ctrl-C ends it after the steps done so far.\n\
           step SESSION [N]               does one step, or N, and shows each instruction, with the stack before and behind it\n\
-          show SESSION                   its kind, how many words, window and registers, how deep its stack went, its next instruction and calls, and why it faulted\n\
+          show SESSION                   its kind, region, window and registers, how deep its stack went, its next instruction and calls, and why it faulted\n\
           \x20 How deep: the lowest stack pointer, the words that the stack never reached, and the least region that would have been enough so far.\n\
           \x20 After fault 4, a full stack, nothing of it is told: open the session with more words and run it again.\n\
           words SESSION [FROM [COUNT]]   its words, by its own addresses\n\
           save SESSION FILE              its words as text that a spreadsheet reads\n\
           shared [FROM [COUNT]]          the shared words\n\
-          map                            the shared words, this desk's sessions, and how many words are left beside them\n\
+          map                            who has which words of the memory\n\
           close SESSION                  closes a session and frees its words\n\
-          desk [N]                       makes the console desk N from here on; desk alone tells which it is, at first 0\n\
-          \x20 A session belongs to the desk that opened it. At any other desk its number is refused with 12, as if it were not open, and its name is unknown.\n\
-          \x20 Slots and shared words are every desk's. N is any number of 64 bits.\n\
           keep going [always]            a script goes on after a report's fault; always: after any failure\n\
           \x20 A script is what is read from a file or a pipe. Without this it stops at the first line that fails.\n\
           help [COMMAND]                 this page, or more of one command\n\

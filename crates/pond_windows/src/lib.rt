@@ -6,7 +6,7 @@ mod lines;
 mod refusals;
 mod windows;
 
-pub use holds::{held, lowest_loaded};
+pub use holds::held;
 pub use lines::{opened, shown};
 pub use refusals::refused;
 pub use windows::{Seen, open_window, seen_by};

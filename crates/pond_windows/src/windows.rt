@@ -29,8 +29,6 @@ pub fn open_window(
     words: usize,
     first: usize,
     len: usize,
-    owner: usize,
 ) -> Out {
-    let window = Window { first, len };
-    bench::open_window(b, memory, store, slot, words, window, owner)
+    bench::open_window(b, memory, store, slot, words, Window { first, len })
 }

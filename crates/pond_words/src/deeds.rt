@@ -45,8 +45,8 @@ struct Order {
     name: usize,
 }
 
-// The command on the tape, with n words behind its verb, at this desk. It is `Wrong` where they cannot be followed, of which it has been said.
-pub fn read(form: u8, book: &[u8], desk: usize, tape: &[u8], n: u8) -> Deed {
+// The command on the tape, with n words behind its verb. It is `Wrong` where they cannot be followed, of which it has been said.
+pub fn read(form: u8, book: &[u8], tape: &[u8], n: u8) -> Deed {
     if !forms::fits(form, n) {
         expected(form);
         return Deed::Wrong;
@@ -59,9 +59,9 @@ pub fn read(form: u8, book: &[u8], desk: usize, tape: &[u8], n: u8) -> Deed {
         forms::ARCHIVE => archive(row(tape, 1), n),
         forms::BENCH => bench(tape, n),
         forms::LOAD => load(book, row(tape, 1)),
-        forms::OPEN => open(book, desk, tape, n),
+        forms::OPEN => open(book, tape, n),
         forms::SHARED => shared(numbers_at(form, tape, 1, n)),
-        _ => of_session(form, book, desk, tape, n),
+        _ => of_session(form, book, tape, n),
     }
 }
 
@@ -125,15 +125,14 @@ fn load(book: &[u8], slot: &[u8]) -> Deed {
 }
 
 // `open [NAME] SLOT WORDS`, and behind it `for FARM` or `window FIRST COUNT`.
-fn open(book: &[u8], desk: usize, tape: &[u8], n: u8) -> Deed {
+fn open(book: &[u8], tape: &[u8], n: u8) -> Deed {
     if forms::stands(tape, n, 1, b"for") {
-        let o = order_of(book, desk, tape, less(n, 2));
-        return open_for(o, row(tape, n as usize));
+        return open_for(order_of(book, tape, less(n, 2)), row(tape, n as usize));
     }
     if forms::stands(tape, n, 2, b"window") {
-        return open_window(order_of(book, desk, tape, less(n, 3)), tape, n);
+        return open_window(order_of(book, tape, less(n, 3)), tape, n);
     }
-    let o = order_of(book, desk, tape, n);
+    let o = order_of(book, tape, n);
     if o.ok {
         return Deed::Open(o.slot, o.words, o.name);
     }
@@ -170,10 +169,10 @@ fn less(n: u8, by: u8) -> u8 {
 }
 
 // `SLOT WORDS`, or `NAME SLOT WORDS`, in the first n words behind the verb.
-fn order_of(book: &[u8], desk: usize, tape: &[u8], n: u8) -> Order {
+fn order_of(book: &[u8], tape: &[u8], n: u8) -> Order {
     match n {
         2 => ordered(book, row(tape, 1), row(tape, 2), UNNAMED),
-        3 => named(book, desk, tape, row(tape, 1)),
+        3 => named(book, tape, row(tape, 1)),
         _ => {
             expected(forms::OPEN);
             none()
@@ -181,12 +180,12 @@ fn order_of(book: &[u8], desk: usize, tape: &[u8], n: u8) -> Order {
     }
 }
 
-fn named(book: &[u8], desk: usize, tape: &[u8], name: &[u8]) -> Order {
+fn named(book: &[u8], tape: &[u8], name: &[u8]) -> Order {
     if is_number(name) {
         expected(forms::OPEN);
         return none();
     }
-    if expects::new_session(book, desk, name) {
+    if expects::new_session(book, name) {
         return ordered(book, row(tape, 2), row(tape, 3), 1);
     }
     none()
@@ -216,12 +215,12 @@ fn ordered(book: &[u8], slot: &[u8], words: &[u8], name: usize) -> Order {
 }
 
 // The commands whose first word is a session. Its numbers are read before it.
-fn of_session(form: u8, book: &[u8], desk: usize, tape: &[u8], n: u8) -> Deed {
+fn of_session(form: u8, book: &[u8], tape: &[u8], n: u8) -> Deed {
     let p = numbers_at(form, tape, 2, counted(form, n));
     if !p.ok {
         return Deed::Wrong;
     }
-    let s = expects::session(book, desk, row(tape, 1));
+    let s = expects::session(book, row(tape, 1));
     if !s.ok {
         return Deed::Wrong;
     }

@@ -1,9 +1,13 @@
 // Numbers and names read from words, and what is said where they cannot be.
 // Above it: the commands. Below it: the book of names, and how the console speaks.
-use crate::forms;
 use crate::forms::expected;
 use numbers::{Number, number_of};
 use pond_rows::row;
+
+// The first rows of the names of sessions and of slots.
+const SESSIONS: usize = 0;
+
+const SLOTS: usize = 16;
 
 // The longest name.
 const LONGEST: usize = 24;
@@ -122,26 +126,11 @@ pub fn farm(word: &[u8], form: u8) -> One {
     f
 }
 
-// The desk that the console is behind `desk` with n words: the one of the number, or where there is none the one that it is now.
-pub fn desk(tape: &[u8], n: u8, now: u64) -> One {
-    if !forms::fits(forms::DESK, n) {
-        expected(forms::DESK);
-        return none();
-    }
-    if n == 0 {
-        return One {
-            ok: true,
-            value: now,
-        };
-    }
-    number(row(tape, 1), forms::DESK)
-}
-
-// The session of a number, open or not, or of a name of this desk's. A name of another desk's is unknown here.
-pub fn session(book: &[u8], desk: usize, word: &[u8]) -> One {
+// The session of a number, open or not, or of a name.
+pub fn session(book: &[u8], word: &[u8]) -> One {
     let n = number_of(word);
     if let Number::Not = n {
-        let s = found(pond_rows::find_session(book, desk, word));
+        let s = found(book, SESSIONS, word);
         if !s.ok {
             around(
                 b"cannot follow that: no session is called ",
@@ -158,7 +147,7 @@ pub fn session(book: &[u8], desk: usize, word: &[u8]) -> One {
 pub fn slot(book: &[u8], word: &[u8]) -> One {
     let n = number_of(word);
     if let Number::Not = n {
-        let s = found(pond_rows::find_slot(book, word));
+        let s = found(book, SLOTS, word);
         if !s.ok {
             around(
                 b"cannot follow that: no slot is called ",
@@ -171,37 +160,34 @@ pub fn slot(book: &[u8], word: &[u8]) -> One {
     value(n, word)
 }
 
-fn found(i: usize) -> One {
+fn found(book: &[u8], first: usize, word: &[u8]) -> One {
+    let i = pond_rows::find(book, first, word);
     One {
         ok: i < 16,
         value: i as u64,
     }
 }
 
-// Whether a session of this desk, or a slot, can be given this name; else it has been said why not.
-pub fn new_session(book: &[u8], desk: usize, word: &[u8]) -> bool {
+// Whether a session, or a slot, can be given this name; else it has been said why not.
+pub fn new_session(book: &[u8], word: &[u8]) -> bool {
     fresh(
-        pond_rows::find_session(book, desk, word),
+        book,
+        SESSIONS,
         word,
         b"cannot follow that: a session is called ",
     )
 }
 
 pub fn new_slot(book: &[u8], word: &[u8]) -> bool {
-    fresh(
-        pond_rows::find_slot(book, word),
-        word,
-        b"cannot follow that: a slot is called ",
-    )
+    fresh(book, SLOTS, word, b"cannot follow that: a slot is called ")
 }
 
-// Number 16 has the name where nothing has it.
-fn fresh(which: usize, word: &[u8], taken: &[u8]) -> bool {
+fn fresh(book: &[u8], first: usize, word: &[u8], taken: &[u8]) -> bool {
     if LONGEST < word.len() {
         pond_say::text(b"cannot follow that: a name has at most 24 bytes\n");
         return false;
     }
-    if which == 16 {
+    if pond_rows::find(book, first, word) == 16 {
         return true;
     }
     around(taken, word, b" already\n");

@@ -5,19 +5,19 @@ use pond_rows::row;
 use pond_say::Outcome;
 use text::{piece, same, word};
 
-const FORMS: [u8; 612] =
+const FORMS: [u8; 603] =
     *b"map;slots;fill FILE;show SESSION;close SESSION;bench N S or bench N records FILE;load SLOT FILE;\
     turn SESSION STEPS;save SESSION FILE;step SESSION [N];\
     open [NAME] SLOT WORDS, open [NAME] SLOT WORDS for FARM or open [NAME] SLOT WORDS window FIRST COUNT;\
-    words SESSION [FROM [COUNT]];shared [FROM [COUNT]];archive [FARM];records FILE;desk [N];\
+    words SESSION [FROM [COUNT]];shared [FROM [COUNT]];archive [FARM];records FILE;\
     check FILE;list FILE, list FILE routine K or list FILE near BYTE;run FILE [WORDS [STEPS]] [with ARCHIVE [for FARM]];demo;\
     help [COMMAND];--version;keep going or keep going always;quit or exit, and nothing more;exit;--help;-h;\
     turn FILE OUT;turn SESSION STEPS or turn FILE OUT";
 
 // How many forms the table has, and the number of what is no command.
-const ALL: u8 = 29;
+const ALL: u8 = 28;
 
-// The commands on a bench are the first; the next one belongs to the console as they do.
+// The commands on a bench are the first.
 pub const MAP: u8 = 0;
 
 pub const SLOTS: u8 = 1;
@@ -48,33 +48,31 @@ pub const ARCHIVE: u8 = 13;
 
 pub const RECORDS: u8 = 14;
 
-pub const DESK: u8 = 15;
+pub const CHECK: u8 = 15;
 
-pub const CHECK: u8 = 16;
+pub const LIST: u8 = 16;
 
-pub const LIST: u8 = 17;
+pub const RUN: u8 = 17;
 
-pub const RUN: u8 = 18;
+pub const DEMO: u8 = 18;
 
-pub const DEMO: u8 = 19;
+pub const HELP: u8 = 19;
 
-pub const HELP: u8 = 20;
+pub const VERSION: u8 = 20;
 
-pub const VERSION: u8 = 21;
+pub const KEEP: u8 = 21;
 
-pub const KEEP: u8 = 22;
+pub const QUIT: u8 = 22;
 
-pub const QUIT: u8 = 23;
+const EXIT: u8 = 23;
 
-const EXIT: u8 = 24;
+const LONG_HELP: u8 = 24;
 
-const LONG_HELP: u8 = 25;
+const SHORT_HELP: u8 = 25;
 
-const SHORT_HELP: u8 = 26;
+pub const TURN_FILE: u8 = 26;
 
-pub const TURN_FILE: u8 = 27;
-
-pub const EITHER_TURN: u8 = 28;
+pub const EITHER_TURN: u8 = 27;
 
 // The command on the tape.
 pub fn named(tape: &[u8]) -> u8 {
@@ -121,11 +119,6 @@ pub fn on_bench(form: u8) -> bool {
     form <= RECORDS
 }
 
-// Whether a command means nothing but in the console: one on its bench, or `desk`.
-pub fn of_console(form: u8) -> bool {
-    form <= DESK
-}
-
 // Whether n words can stand behind the verb.
 pub fn fits(form: u8, n: u8) -> bool {
     match form {
@@ -137,7 +130,7 @@ pub fn fits(form: u8, n: u8) -> bool {
         OPEN => among(2, 6, n),
         WORDS => among(1, 3, n),
         SHARED => n <= 2,
-        HELP | ARCHIVE | DESK => n <= 1,
+        HELP | ARCHIVE => n <= 1,
         RUN => among(1, 7, n),
         _ => true,
     }

@@ -6,4 +6,4 @@ mod expects;
 pub mod forms;
 
 pub use deeds::{Deed, read};
-pub use expects::{Given, desk, farm, numbers_at};
+pub use expects::{Given, farm, numbers_at};

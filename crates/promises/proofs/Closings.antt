@@ -6,17 +6,18 @@ use mathlib.Core.Bool.{true, false, false≢true}
 use Prim.Native.Nat.{ℕ, ◌+◌, ◌≤◌, ◌<◌}
 use native.Mathlib.Omega.{arith}
 use native.Mathlib.Decide.{ℕ_discrete}
+use lib.Dec.{leb}
 use lib.ListN.{length}
 use lib.Seq.{get_or-set_same}
+use Rattle.basis.proofs.Bools.{and_snd}
 use Rattle.sound.specs.Bench.{no_session, World, session_at}
 use Rattle.sound.specs.Sound.{Sound}
 use Rattle.sound.specs.declared.Session.{Session}
 use Rattle.sound.proofs.Lists.{decided}
 use Rattle.sound.proofs.Facts.{opened, long, used_in, apart_good}
 use Rattle.entry.specs.declared.Answer.TheVariants.{Done}
-use Rattle.entry.specs.Entries.{cleared, open_for, close_checks, close_of}
+use Rattle.entry.specs.Entries.{cleared, open_at, close_checks, close_of}
 use Rattle.entry.proofs.Refusing.{passes}
-use Rattle.entry.proofs.Owned.{for_used}
 use Rattle.promises.specs.Words.{InRegion, Free, OnlyRecord, Closes}
 use Rattle.promises.proofs.Zeros.{zeroed, only}
 
@@ -56,8 +57,8 @@ module _ (store : List ℕ) (w : World) (i : ℕ) (g : Sound store w) (u : (sess
         zeroed = zeroed w i no_session (session_at w i).base (session_at w i).len (opened store w g i u).inside;
       }
 
-pub closed : (store : List ℕ) (w : World) (desk i : ℕ) → Sound store w → open_for w desk i ≡ true
-    → ((close_of store desk i w).answer ≡ Done 0) × Closes w (close_of store desk i w).world i
+pub closed : (store : List ℕ) (w : World) (i : ℕ) → Sound store w → open_at w i ≡ true
+    → ((close_of store i w).answer ≡ Done 0) × Closes w (close_of store i w).world i
 unfolding close_of
-closed store w desk i g o =
-    rw (passes (close_checks store desk i w) w _ (g.sound, (o, tt))) (refl, is_closed store w i g (for_used w desk i o))
+closed store w i g o =
+    rw (passes (close_checks store i w) w _ (g.sound, (o, tt))) (refl, is_closed store w i g (and_snd (leb i 15) (session_at w i).used o))

@@ -28,7 +28,6 @@ use Rattle.entry.specs.declared.Gap.TheVariants.{At, Full}
 use Rattle.entry.specs.Answer.{answer_ruling}
 use Rattle.entry.specs.Entries.{loaded_at, new_of, loaded_slot, range_ok, load_of, len_ok, record_for, clear_of, gap_at, gap_of, gap_for, found, place_in, cleared, fresh, window_open_of, close_of}
 use Rattle.entry.proofs.Refusing.{by_checks}
-use Rattle.entry.proofs.Owned.{for_used}
 use Rattle.entry_open.proofs.Lowest.{lowest_passes}
 
 module _ (store : List ℕ) (w : World) (g : Sound store w) where
@@ -59,19 +58,19 @@ module _ (store : List ℕ) (w : World) (g : Sound store w) where
   unfolding apart
   unused_apart se = (refl, or-true (not se.used))
 
-  pub close_sound : (desk i : ℕ) → Sound store (close_of store desk i w).world
+  pub close_sound : (i : ℕ) → Sound store (close_of store i w).world
   unfolding close_of placed session_ok
-  close_sound desk i =
+  close_sound i =
       by_checks (λ r. Sound store r.world) _ w _ (λ _ _. g)
       (λ p. replaced_good i no_session (session_at w i).base (session_at w i).len
-      (opened store w g i (for_used w desk i p.1.0)).inside refl refl (λ j o n. unused_apart (session_at w j)))
+      (opened store w g i (and_snd (leb i 15) (session_at w i).used p.1.0)).inside refl refl (λ j o n. unused_apart (session_at w j)))
 
-  module _ (slot len : ℕ) (v : Window) (owner : ℕ) (loaded : loaded_at w slot ≡ true) (lk : len_ok (code_of store (slot_at w.bench.slots slot)) len ≡ true) (seen : inside_shared w.bench.s v ≡ true) where
+  module _ (slot len : ℕ) (v : Window) (loaded : loaded_at w slot ≡ true) (lk : len_ok (code_of store (slot_at w.bench.slots slot)) len ≡ true) (seen : inside_shared w.bench.s v ≡ true) where
     abbrev code : List ℕ
     code = code_of store (slot_at w.bench.slots slot)
 
     abbrev opening : ℕ → Session
-    opening a = fresh slot a len v owner (start_of code len)
+    opening a = fresh slot a len v (start_of code len)
 
     fresh_apart : (a : ℕ) (se : Session) → clear_of a len se ≡ true → (apart (opening a) se ≡ true) × (apart se (opening a) ≡ true)
     unfolding apart
@@ -99,12 +98,12 @@ module _ (store : List ℕ) (w : World) (g : Sound store w) where
         replaced_good i (opening a) a len f (holds_every _ (x.0, (x.1.0, (seen, tt)))) (fresh_ok a)
         (λ j q n. fresh_apart a (session_at w j) (all_at (clear_of a len) w.bench.sessions j no_session x.1.1.0 q))
 
-  pub open_sound : (slot len : ℕ) (v : Window) (owner : ℕ) → Sound store (window_open_of store slot len v owner w).world
+  pub open_sound : (slot len : ℕ) (v : Window) → Sound store (window_open_of store slot len v w).world
   unfolding window_open_of
-  open_sound slot len v owner =
+  open_sound slot len v =
       by_checks (λ r. Sound store r.world) _ w _ (λ _ _. g)
       (λ p. let sizes = both_true _ _ p.1.1.0 in
-      opens_by slot len v owner p.1.0 sizes.0 sizes.1 (record_for w) (gap_for w len) refl p.1.1.1.1.0)
+      opens_by slot len v p.1.0 sizes.0 sizes.1 (record_for w) (gap_for w len) refl p.1.1.1.1.0)
 
 module _ (store : List ℕ) (w : World) (g : Sound store w) (slot start len : ℕ) (free : (slot_at w.bench.slots slot).loaded ≡ false) where
   abbrev slots' : List Slot

@@ -128,26 +128,26 @@ len_some code len h = let q : 16 ≤ len = leb-true _ _ (every_holds _ h).0 in o
 
 -- ---- the two promises
 
-module _ (store : List ℕ) (w : World) (slot len : ℕ) (v : Window) (owner : ℕ) (g : Sound store w) where
+module _ (store : List ℕ) (w : World) (slot len : ℕ) (v : Window) (g : Sound store w) where
   abbrev code : List ℕ
   code = code_of store (slot_at w.bench.slots slot)
 
   -- an opening that passes its checks, at this place
   abbrev opening : ℕ → Result
-  opening a = opens slot len v owner (start_of code len) (record_for w) a w
+  opening a = opens slot len v (start_of code len) (record_for w) a w
 
   module _ (ld : loaded_at w slot ≡ true) (lk : len_ok (code_of store (slot_at w.bench.slots slot)) len ≡ true) (seen : inside_shared w.bench.s v ≡ true) (left : record_for w ≤ 15) where
     sizes : (len_ok (code_of store (slot_at w.bench.slots slot)) len && inside_shared w.bench.s v) ≡ true
     sizes = and_both _ _ lk seen
 
-    number_by : (r : Gap) → gap_for w len ≡ r → answer_ruling (window_open_of store slot len v owner w).answer ≡ refused 15 0 → r ≡ Full
+    number_by : (r : Gap) → gap_for w len ≡ r → answer_ruling (window_open_of store slot len v w).answer ≡ refused 15 0 → r ≡ Full
     unfolding window_open_of
     number_by Full e n = refl
     number_by (At a) e n =
         let q = passes (window_checks store slot len v w) w (opening (place_in (gap_for w len))) (g.sound, (ld, (sizes, (le-leb _ _ left, (ap found e, tt))))) in
         absurd (never (ap (λ (r : Result). answer_ruling r.answer) q) n)
 
-    refused_by : (r : Gap) → gap_for w len ≡ r → ((a : ℕ) → GapFrom w len a → ⊥) → answer_ruling (window_open_of store slot len v owner w).answer ≡ refused 15 0
+    refused_by : (r : Gap) → gap_for w len ≡ r → ((a : ℕ) → GapFrom w len a → ⊥) → answer_ruling (window_open_of store slot len v w).answer ≡ refused 15 0
     unfolding window_open_of
     refused_by Full e n =
         ap (λ (r : Result). answer_ruling r.answer)
@@ -155,11 +155,11 @@ module _ (store : List ℕ) (w : World) (slot len : ℕ) (v : Window) (owner : �
         (found (gap_for w len)) [] w (opening (place_in (gap_for w len))) (g.sound, (ld, (sizes, (le-leb _ _ left, tt)))) (ap found e))
     refused_by (At a) e n = absurd (n a (gap_free store w g len a (is_gap store w g len a e)))
 
-    pub fifteen : (answer_ruling (window_open_of store slot len v owner w).answer ≡ refused 15 0) ↔ ((a : ℕ) → GapFrom w len a → ⊥)
+    pub fifteen : (answer_ruling (window_open_of store slot len v w).answer ≡ refused 15 0) ↔ ((a : ℕ) → GapFrom w len a → ⊥)
     fifteen = (λ n. none_found store w g len (number_by (gap_for w len) refl n) (len_some code len lk), refused_by (gap_for w len) refl)
 
   -- "A window not inside the S words gets 13"
-  pub thirteen : loaded_at w slot ≡ true → w.bench.s < v.first + v.len → answer_ruling (window_open_of store slot len v owner w).answer ≡ refused 13 0
+  pub thirteen : loaded_at w slot ≡ true → w.bench.s < v.first + v.len → answer_ruling (window_open_of store slot len v w).answer ≡ refused 13 0
   unfolding window_open_of
   thirteen ld out =
       let wide : (len_ok code len && inside_shared w.bench.s v) ≡ false = rw (lt-leb (v.first + v.len) w.bench.s out) (and-false (len_ok code len)) in
@@ -168,12 +168,12 @@ module _ (store : List ℕ) (w : World) (slot len : ℕ) (v : Window) (owner : �
       (opening (place_in (gap_for w len))) (g.sound, (ld, tt)) wide)
 
   -- what an opening that is done has done
-  done_by : Passing (window_checks store slot len v w) → (r : Gap) → gap_for w len ≡ r → Opens store slot len v owner w (opening (place_in r)).world (record_for w)
+  done_by : Passing (window_checks store slot len v w) → (r : Gap) → gap_for w len ≡ r → Opens store slot len v w (opening (place_in r)).world (record_for w)
   done_by p Full e = absurd (false≢true (sym (ap found e) ∙ p.1.1.1.1.0))
   done_by p (At a) e =
       let lo : record_for w ≤ 15 = leb-true _ _ p.1.1.1.0 in
       let inl : record_for w < length w.bench.sessions = rw g.sixteen (omega (arith, lo)) in
-      let se = fresh slot a len v owner (start_of code len) in
+      let se = fresh slot a len v (start_of code len) in
       let f = gap_in store w g len a e in
       record {
         place = a;
@@ -187,9 +187,9 @@ module _ (store : List ℕ) (w : World) (slot len : ℕ) (v : Window) (owner : �
         zeroed = zeroed w (record_for w) se a len f;
       }
 
-  pub opened_is : (i : ℕ) → (window_open_of store slot len v owner w).answer ≡ Done i → Opens store slot len v owner w (window_open_of store slot len v owner w).world i
+  pub opened_is : (i : ℕ) → (window_open_of store slot len v w).answer ≡ Done i → Opens store slot len v w (window_open_of store slot len v w).world i
   unfolding window_open_of
   opened_is i =
-      by_checks (λ r. r.answer ≡ Done i → Opens store slot len v owner w r.world i) (window_checks store slot len v w) w _
+      by_checks (λ r. r.answer ≡ Done i → Opens store slot len v w r.world i) (window_checks store slot len v w) w _
       (λ n q e. let z : ◌≡◌ {A = ℕ} 0 1 = cc in absurd (omega arith))
       (λ p e. let z : record_for w ≡ i = cc in rw (← z) (done_by p (gap_for w len) refl))

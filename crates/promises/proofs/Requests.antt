@@ -3,20 +3,22 @@
 use mathlib.Core.Path.{◌≡◌, refl, sym, ap, ◌∙◌}
 use mathlib.Core.List.{List, ◌++◌}
 use mathlib.Core.Bool.{true}
-use Prim.Native.Nat.{ℕ}
+use Prim.Native.Nat.{ℕ, ◌+◌, ◌-◌, ◌≤◌}
+use native.Mathlib.Omega.{arith}
+use lib.Dec.{leb}
 use Rattle.basis.specs.Checks.{Check, Ruling, passed, refused, ruling, followed_by}
+use Rattle.basis.proofs.Bools.{and_snd}
 use Rattle.basis.proofs.Checks.{never, ruling_append}
+use Rattle.basis.proofs.Part.{length_part, length_splice}
 use Rattle.sound.specs.Below.{cpu_of}
-use Rattle.sound.specs.Bench.{World, session_at, code_at, window_at, state_at, at_cpu}
+use Rattle.sound.specs.Bench.{World, session_at, code_at, window_at, state_at}
 use Rattle.sound.specs.Sound.{Sound}
-use Rattle.sound.proofs.Below.{run_keeps}
+use Rattle.sound.proofs.Below.{run_keeps, run_length}
 use Rattle.sound.proofs.Facts.{opened, registers_good}
 use Rattle.entry.specs.declared.Out.{Out}
 use Rattle.entry.specs.Answer.{answer_ruling, Result, result_of, done, ruled, refusing}
 use Rattle.entry.specs.Entries.{load_of, all_shared, window_open_of, ran_of, put, turn_of, close_of}
 use Rattle.entry.proofs.Refusing.{by_checks}
-use Rattle.entry.proofs.Owned.{for_used}
-use Rattle.entry.proofs.Replaced.{own_region, words_long, ran_long, size}
 use Rattle.archive.specs.Archive.{farm_range, farm_open_of}
 use Rattle.promises.specs.Requests.{Request, loading, opening, opening_on, opening_for, turning, closing, asked, checks_for}
 use Rattle.promises.proofs.Kept.{load_sound, open_sound, close_sound}
@@ -39,11 +41,11 @@ farm_answered cs ds w v d = rw (ruling_append cs ds) (go (ruling cs))
 pub answers : (store : List ℕ) (q : Request) (w : World) → answer_ruling (asked store q w).answer ≡ ruling (checks_for store q w)
 unfolding load_of window_open_of farm_open_of turn_of close_of refusing
 answers store (loading slot start len) w = answered _ w _ _
-answers store (opening slot len owner) w = answered _ w _ _
-answers store (opening_on slot len v owner) w = answered _ w _ _
-answers store (opening_for slot len farm owner) w = farm_answered _ _ w _ _
-answers store (turning desk i k) w = answered _ w _ _
-answers store (closing desk i) w = answered _ w _ _
+answers store (opening slot len) w = answered _ w _ _
+answers store (opening_on slot len v) w = answered _ w _ _
+answers store (opening_for slot len farm) w = farm_answered _ _ w _ _
+answers store (turning i k) w = answered _ w _ _
+answers store (closing i) w = answered _ w _ _
 
 same : (r : Ruling) (w v : World) (d n p : ℕ) → r ≡ refused n p → (ruled r w (done d v)).world ≡ w
 same passed w v d n p e = absurd (never refl e)
@@ -60,11 +62,11 @@ farm_same cs ds w v d n p e = go (ruling cs) (rw (ruling_append cs ds) at e)
 left_alone : (store : List ℕ) (q : Request) (w : World) (n p : ℕ) → ruling (checks_for store q w) ≡ refused n p → (asked store q w).world ≡ w
 unfolding load_of window_open_of farm_open_of turn_of close_of refusing
 left_alone store (loading slot start len) w n p e = same _ w _ _ n p e
-left_alone store (opening slot len owner) w n p e = same _ w _ _ n p e
-left_alone store (opening_on slot len v owner) w n p e = same _ w _ _ n p e
-left_alone store (opening_for slot len farm owner) w n p e = farm_same _ _ w _ _ n p e
-left_alone store (turning desk i k) w n p e = same _ w _ _ n p e
-left_alone store (closing desk i) w n p e = same _ w _ _ n p e
+left_alone store (opening slot len) w n p e = same _ w _ _ n p e
+left_alone store (opening_on slot len v) w n p e = same _ w _ _ n p e
+left_alone store (opening_for slot len farm) w n p e = farm_same _ _ w _ _ n p e
+left_alone store (turning i k) w n p e = same _ w _ _ n p e
+left_alone store (closing i) w n p e = same _ w _ _ n p e
 
 pub unchanged : (store : List ℕ) (q : Request) (w : World) (n p : ℕ) → answer_ruling (asked store q w).answer ≡ refused n p → (asked store q w).world ≡ w
 unchanged store q w n p e = left_alone store q w n p (sym (answers store q w) ∙ e)
@@ -75,29 +77,33 @@ unchanged store q w n p e = left_alone store q w n p (sym (answers store q w) �
 ran_sound : (store : List ℕ) (w : World) (g : Sound store w) (i k : ℕ) → (session_at w i).used ≡ true → Sound store (put i (ran_of store i k w) w)
 ran_sound store w g i k u =
     let f = opened store w g i u in
-    let ran = ran_of store i k w in
-    registers_good store w g i u (cpu_of ran) (put i ran w).mem
-    (size w i (at_cpu (session_at w i) (cpu_of ran)) _ _ ran.words (own_region store w g i u) (ran_long store w g i k u))
-    (run_keeps k (code_at store w i) (window_at w i) (session_at w i).len (state_at w i) f.checked f.most (words_long store w g i u) f.cpu_ok_lem)
+    let base = (session_at w i).base in
+    let end = (session_at w i).base + (session_at w i).len in
+    let o : base ≤ end = omega arith in
+    let l = length_part base end w.mem o f.inside in
+    let e : end - base ≡ (session_at w i).len = omega arith in
+    registers_good store w g i u (cpu_of (ran_of store i k w)) (put i (ran_of store i k w) w).mem
+    (length_splice base end w.mem o f.inside (ran_of store i k w).words (run_length k (code_at store w i) (window_at w i) (state_at w i) ∙ l))
+    (run_keeps k (code_at store w i) (window_at w i) (session_at w i).len (state_at w i) f.checked f.most (l ∙ e) f.cpu_ok_lem)
 
-turn_sound : (store : List ℕ) (w : World) → Sound store w → (desk i k : ℕ) → Sound store (turn_of store desk i k w).world
+turn_sound : (store : List ℕ) (w : World) → Sound store w → (i k : ℕ) → Sound store (turn_of store i k w).world
 unfolding turn_of
-turn_sound store w g desk i k =
+turn_sound store w g i k =
     by_checks (λ r. Sound store r.world) _ w _ (λ _ _. g)
-    (λ p. ran_sound store w g i k (for_used w desk i p.1.0))
+    (λ p. ran_sound store w g i k (and_snd (leb i 15) (session_at w i).used p.1.0))
 
-farm_sound : (store : List ℕ) (w : World) → Sound store w → (slot len farm owner : ℕ) → Sound store (farm_open_of store slot len farm owner w).world
+farm_sound : (store : List ℕ) (w : World) → Sound store w → (slot len farm : ℕ) → Sound store (farm_open_of store slot len farm w).world
 unfolding farm_open_of
-farm_sound store w g slot len farm owner =
-    by_checks (λ r. Sound store r.world) _ w _ (λ _ _. g) (λ p. open_sound store w g slot len (farm_range farm w) owner)
+farm_sound store w g slot len farm =
+    by_checks (λ r. Sound store r.world) _ w _ (λ _ _. g) (λ p. open_sound store w g slot len (farm_range farm w))
 
 pub stays_sound : (store : List ℕ) (q : Request) (w : World) → Sound store w → Sound store (asked store q w).world
 stays_sound store (loading slot start len) w g = load_sound store w g slot start len
-stays_sound store (opening slot len owner) w g = open_sound store w g slot len (all_shared w) owner
-stays_sound store (opening_on slot len v owner) w g = open_sound store w g slot len v owner
-stays_sound store (opening_for slot len farm owner) w g = farm_sound store w g slot len farm owner
-stays_sound store (turning desk i k) w g = turn_sound store w g desk i k
-stays_sound store (closing desk i) w g = close_sound store w g desk i
+stays_sound store (opening slot len) w g = open_sound store w g slot len (all_shared w)
+stays_sound store (opening_on slot len v) w g = open_sound store w g slot len v
+stays_sound store (opening_for slot len farm) w g = farm_sound store w g slot len farm
+stays_sound store (turning i k) w g = turn_sound store w g i k
+stays_sound store (closing i) w g = close_sound store w g i
 
 -- ---- one answer
 

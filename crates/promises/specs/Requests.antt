@@ -10,25 +10,25 @@ use Rattle.archive.specs.Archive.{farm_checks, farm_open_of}
 
 pub data Request : Type 0 where
   loading : ℕ → ℕ → ℕ → Request  -- slot, start, length
-  opening : ℕ → ℕ → ℕ → Request  -- slot, L, owner
-  opening_on : ℕ → ℕ → Window → ℕ → Request  -- slot, L, window, owner
-  opening_for : ℕ → ℕ → ℕ → ℕ → Request  -- slot, L, farm, owner
-  turning : ℕ → ℕ → ℕ → Request  -- desk, session, steps
-  closing : ℕ → ℕ → Request  -- desk, session
+  opening : ℕ → ℕ → Request  -- slot, L
+  opening_on : ℕ → ℕ → Window → Request  -- slot, L, window
+  opening_for : ℕ → ℕ → ℕ → Request  -- slot, L, farm
+  turning : ℕ → ℕ → Request  -- session, steps
+  closing : ℕ → Request  -- session
 
 abbrev pub asked : List ℕ → Request → World → Result
 asked store (loading slot start len) w = load_of store slot start len w
-asked store (opening slot len owner) w = open_of store slot len owner w
-asked store (opening_on slot len v owner) w = window_open_of store slot len v owner w
-asked store (opening_for slot len farm owner) w = farm_open_of store slot len farm owner w
-asked store (turning desk i k) w = turn_of store desk i k w
-asked store (closing desk i) w = close_of store desk i w
+asked store (opening slot len) w = open_of store slot len w
+asked store (opening_on slot len v) w = window_open_of store slot len v w
+asked store (opening_for slot len farm) w = farm_open_of store slot len farm w
+asked store (turning i k) w = turn_of store i k w
+asked store (closing i) w = close_of store i w
 
 -- "Order: loading 11, 12, 17, then 1 to 8. [..] Opening 11, 12, 13, 14, 15. Turn and closing 11, 12, 16." Request 7: for a farm, 23 after 11
 abbrev pub checks_for : List ℕ → Request → World → List Check
 checks_for store (loading slot start len) w = load_checks store slot start len w
-checks_for store (opening slot len owner) w = open_checks store slot len w
-checks_for store (opening_on slot len v owner) w = window_checks store slot len v w
-checks_for store (opening_for slot len farm owner) w = farm_checks store slot len farm w
-checks_for store (turning desk i k) w = turn_checks store desk i k w
-checks_for store (closing desk i) w = close_checks store desk i w
+checks_for store (opening slot len) w = open_checks store slot len w
+checks_for store (opening_on slot len v) w = window_checks store slot len v w
+checks_for store (opening_for slot len farm) w = farm_checks store slot len farm w
+checks_for store (turning i k) w = turn_checks store i k w
+checks_for store (closing i) w = close_checks store i w

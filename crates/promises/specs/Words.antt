@@ -36,15 +36,15 @@ pub record OnlyRecord (w v : World) (i : ℕ) : Type 0 where
   pub same_others : (j : ℕ) → (j ≡ i → ⊥) → session_at v j ≡ session_at w j
 
 -- "Opening gives the lowest gap that fits, from word S up, and the lowest unused record, sets every word of the region to zero, and
--- starts routine 1." Request 7: its record has the window that was named; request 5: and its owner
-pub record Opens (store : List ℕ) (slot len : ℕ) (view : Window) (owner : ℕ) (w v : World) (i : ℕ) : Type 0 where
+-- starts routine 1." Request 7: its record has the window that was named
+pub record Opens (store : List ℕ) (slot len : ℕ) (view : Window) (w v : World) (i : ℕ) : Type 0 where
   pub place : ℕ
   pub gap : GapFrom w len place
   pub lowest_gap : (b : ℕ) → b < place → GapFrom w len b → ⊥
   pub low : i ≤ 15
   pub unused : (session_at w i).used ≡ false
   pub lowest_record : (j : ℕ) → j < i → (session_at w j).used ≡ true
-  pub made : session_at v i ≡ fresh slot place len view owner (start_of (code_of store (slot_at w.bench.slots slot)) len)
+  pub made : session_at v i ≡ fresh slot place len view (start_of (code_of store (slot_at w.bench.slots slot)) len)
   pub only : OnlyRecord w v i
   pub zeroed : Zeroed w v place len
 

@@ -13,7 +13,7 @@ abbrev pub no_slot : Slot
 no_slot = record { loaded = false; start = 0; len = 0 }
 
 abbrev pub no_session : Session
-no_session = record { used = false; slot = 0; base = 0; len = 0; window = record { first = 0; len = 0 }; owner = 0; cpu = no_cpu }
+no_session = record { used = false; slot = 0; base = 0; len = 0; window = record { first = 0; len = 0 }; cpu = no_cpu }
 
 -- "The caller lends a code store (bytes)": those that a slot names, as many of them as there are
 abbrev pub code_of : List ℕ → Slot → List ℕ
@@ -62,18 +62,17 @@ window_at w i = window_in (session_at w i).window (shared_of w)
 abbrev pub state_at : World → ℕ → SessionState
 state_at w i = state_of (words_of w (session_at w i)) (session_at w i).cpu
 
--- the record of a session that was opened on a slot, with the len words from base on and this window, at these registers; request 5: "Each session
--- gets an owner number at opening"
-abbrev pub fresh : ℕ → ℕ → ℕ → Window → ℕ → Cpu → Session
-fresh slot base len v owner c = record { used = true; slot = slot; base = base; len = len; window = v; owner = owner; cpu = c }
+-- the record of a session that was opened on a slot, with the len words from base on and this window, at these registers
+abbrev pub fresh : ℕ → ℕ → ℕ → Window → Cpu → Session
+fresh slot base len v c = record { used = true; slot = slot; base = base; len = len; window = v; cpu = c }
 
--- a session's record at other registers: slot, region, window and owner stay
+-- a session's record at other registers: slot, region and window stay
 abbrev pub at_cpu : Session → Cpu → Session
-at_cpu se c = record { used = se.used; slot = se.slot; base = se.base; len = se.len; window = se.window; owner = se.owner; cpu = c }
+at_cpu se c = record { used = se.used; slot = se.slot; base = se.base; len = se.len; window = se.window; cpu = c }
 
 -- and with another window: all else stays
 abbrev pub at_window : Session → Window → Session
-at_window se v = record { used = se.used; slot = se.slot; base = se.base; len = se.len; window = v; owner = se.owner; cpu = se.cpu }
+at_window se v = record { used = se.used; slot = se.slot; base = se.base; len = se.len; window = v; cpu = se.cpu }
 
 -- the bench with other session records, and with other slots
 abbrev pub at_sessions : Bench → List Session → Bench

@@ -23,8 +23,7 @@ pub struct Window {
     pub len: usize,
 }
 
-// The slot that the session runs, its region (len words from base on), its window of the shared words, the desk that opened it, and its registers
-// and kind.
+// The slot that the session runs, its region (len words from base on), its window of the shared words, and its registers and kind.
 #[derive(Drop)]
 pub struct Session {
     pub used: bool,
@@ -32,21 +31,13 @@ pub struct Session {
     pub base: usize,
     pub len: usize,
     pub window: Window,
-    pub owner: usize,
     pub cpu: Cpu,
 }
 
 impl Session {
-    // The record of a session that a desk opened on a slot, with the len words from base on and this window, at these registers.
-    pub fn fresh(
-        slot: usize,
-        base: usize,
-        len: usize,
-        window: Window,
-        owner: usize,
-        cpu: Cpu,
-    ) -> Self
-        ensures { result ≡ fresh slot base len window owner cpu }
+    // The record of a session that was opened on a slot, with the len words from base on and this window, at these registers.
+    pub fn fresh(slot: usize, base: usize, len: usize, window: Window, cpu: Cpu) -> Self
+        ensures { result ≡ fresh slot base len window cpu }
     {
         let mut out = no_session();
         out.used = true;
@@ -54,12 +45,11 @@ impl Session {
         out.base = base;
         out.len = len;
         out.window = window;
-        out.owner = owner;
         out.cpu = cpu;
         out
     }
 
-    // The record at other registers: slot, region, window and owner stay.
+    // The record at other registers: slot, region and window stay.
     pub fn at(self, cpu: Cpu) -> Self
         ensures { result ≡ at_cpu self cpu }
     {
@@ -99,7 +89,6 @@ pub fn no_session() -> Session
         base: 0,
         len: 0,
         window: Window { first: 0, len: 0 },
-        owner: 0,
         cpu: no_cpu(),
     }
 }

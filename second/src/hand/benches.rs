@@ -1,7 +1,7 @@
 //! The entries: new bench, loading, opening, turns, closing; refusals 11 to 17
 //! with their orders.
 
-use super::{at_record, at_slot, down_to, fill_words, hand_segment, ready, set_bytes, Story, Table, DESK};
+use super::{at_record, at_slot, down_to, fill_words, hand_segment, ready, set_bytes, Story, Table};
 use crate::bench::{Record, Slot, Window};
 use crate::generate::SMALL;
 use crate::machine::{Kind, Session};
@@ -45,7 +45,7 @@ pub fn in_slot(world: &mut World, number: usize, start: u64, length: u64) {
 /// starts at 30, the hand segment at 34.
 pub fn open(world: &mut World, number: usize, slot: u64, base: u64, length: u64, start: u64) {
     let (session, window) = (ready(length, 1, start, 1), Window::all(world.bench.shared));
-    *at_record(world, number) = Record { open: true, slot, base, length, window, owner: DESK, session };
+    *at_record(world, number) = Record { open: true, slot, base, length, window, session };
     fill_words(&mut world.memory, base as usize, &vec![0; length as usize]);
 }
 
@@ -133,7 +133,7 @@ fn loading_judges(t: &mut Table) {
 
 fn opening(t: &mut Table) {
     t.says(r#""Opening 11, 12, 13, 14, 15."; "Opening gives the lowest gap that fits, from word S up, and the lowest unused record""#);
-    let ask = |slot, length| Call::Open { slot, length, owner: DESK };
+    let ask = |slot, length| Call::Open { slot, length };
     let mut start = rigged();
     start.bench.records = blank_bench().records;
     start.memory.fill(9);
@@ -159,7 +159,7 @@ fn opening(t: &mut Table) {
 
 fn opening_and_g(t: &mut Table) {
     t.says(r#""13 opening: L outside 16..32,768, or L below 6+G""#);
-    let ask = |length| Call::Open { slot: 0, length, owner: DESK };
+    let ask = |length| Call::Open { slot: 0, length };
     // routine 1 of the hand segment gets DATASIZE 100
     let mut world = empty(0, 40_000);
     set_bytes(&mut world.store, 64, &[100, 0]);
@@ -178,7 +178,7 @@ fn opening_and_g(t: &mut Table) {
 
 fn sixteen_and_one(t: &mut Table) {
     t.says(r#""14 opening: no record unused", after 13 and before 15"#);
-    let ask = |length| Call::Open { slot: 0, length, owner: DESK };
+    let ask = |length| Call::Open { slot: 0, length };
     let mut world = empty(0, 300);
     in_slot(&mut world, 0, 0, 32);
     let mut story = t.story("sixteen sessions and one", world);
@@ -191,14 +191,14 @@ fn sixteen_and_one(t: &mut Table) {
         .refuses(ask(16), 14)
         .refuses(ask(2_000), 14) // 14 before 15
         .refuses(ask(15), 13) // 13 before 14
-        .goes(Call::Close { session: 5, desk: DESK }, 0, |world| close(world, 5))
+        .goes(Call::Close { session: 5 }, 0, |world| close(world, 5))
         .goes(ask(16), 5, |world| open(world, 5, 0, 80, 16, 30))
         .end();
 }
 
 fn the_lowest_gap(t: &mut Table) {
     t.says(r#""15 opening: no gap of L free words"; "Freed words can be given again.""#);
-    let ask = |length| Call::Open { slot: 0, length, owner: DESK };
+    let ask = |length| Call::Open { slot: 0, length };
     let mut world = empty(3, 103);
     in_slot(&mut world, 0, 0, 32);
     let mut story = t.story("gaps", world);
@@ -209,8 +209,8 @@ fn the_lowest_gap(t: &mut Table) {
         });
     }
     story
-        .goes(Call::Close { session: 0, desk: DESK }, 0, |world| close(world, 0))
-        .goes(Call::Close { session: 2, desk: DESK }, 0, |world| close(world, 2))
+        .goes(Call::Close { session: 0 }, 0, |world| close(world, 0))
+        .goes(Call::Close { session: 2 }, 0, |world| close(world, 2))
         // gaps: 3..23, 43..63, 83..103
         .refuses(ask(21), 15)
         .goes(ask(17), 0, |world| open(world, 0, 0, 3, 17, 30))
@@ -222,7 +222,7 @@ fn the_lowest_gap(t: &mut Table) {
 
 fn turns(t: &mut Table) {
     t.says(r#""Turn and closing 11, 12, 16."; "k = 0 and a session not ready give 0.""#);
-    let ask = |session, k| Call::Turn { session, k, desk: DESK };
+    let ask = |session, k| Call::Turn { session, k };
     let faulted = |sp, counter, number| Session {
         kind: Kind::Faulted { number, place: counter },
         ..ready(sp, 1, counter, 1)
@@ -257,17 +257,17 @@ fn shared_words(t: &mut Table) {
     set_bytes(&mut world.store, 32 + 34, &[129, 0x03, 0x80, 120, 165, 1, 150, 0]);
     in_slot(&mut world, 0, 32, 128);
     t.story("two sessions read one shared word", world)
-        .goes(Call::Open { slot: 0, length: 20, owner: DESK }, 0, |world| open(world, 0, 0, 4, 20, 34))
-        .goes(Call::Open { slot: 0, length: 20, owner: DESK }, 1, |world| open(world, 1, 0, 24, 20, 34))
-        .goes(Call::Turn { session: 1, k: 100, desk: DESK }, 4, |world| {
+        .goes(Call::Open { slot: 0, length: 20 }, 0, |world| open(world, 0, 0, 4, 20, 34))
+        .goes(Call::Open { slot: 0, length: 20 }, 1, |world| open(world, 1, 0, 24, 20, 34))
+        .goes(Call::Turn { session: 1, k: 100 }, 4, |world| {
             let finished = Session { kind: Kind::Finished, ..ready(20, 1, 40, 1) };
             at_record(world, 1).session = down_to(19, finished);
             // global 1, and the word popped, which keeps it
             fill_words(&mut world.memory, 24 + 6, &[1_234]);
             fill_words(&mut world.memory, 24 + 19, &[1_234]);
         })
-        .goes(Call::Turn { session: 1, k: 100, desk: DESK }, 0, |_| {})
-        .goes(Call::Turn { session: 0, k: 2, desk: DESK }, 2, |world| {
+        .goes(Call::Turn { session: 1, k: 100 }, 0, |_| {})
+        .goes(Call::Turn { session: 0, k: 2 }, 2, |world| {
             at_record(world, 0).session = ready(19, 1, 38, 1);
             fill_words(&mut world.memory, 4 + 19, &[1_234]);
         })
@@ -291,7 +291,7 @@ fn the_last_shared_word(t: &mut Table) {
         open(&mut world, 0, 0, 32_768, 16, 34);
         let next = 37 + code.len() as u64;
         t.story(&format!("S = 32,768, {base} by {code:?}"), world)
-            .goes(Call::Turn { session: 0, k: 2, desk: DESK }, 2, |world| {
+            .goes(Call::Turn { session: 0, k: 2 }, 2, |world| {
                 let bad = Kind::Faulted { number: 6, place: 37 };
                 at_record(world, 0).session = match word {
                     Some(_) => ready(15, 1, next, 1),
@@ -305,14 +305,14 @@ fn the_last_shared_word(t: &mut Table) {
 
 fn closing(t: &mut Table) {
     t.says(r#""Closing zeroes the region and frees region and record.""#);
-    let ask = |session| Call::Close { session, desk: DESK };
+    let ask = |session| Call::Close { session };
     let story: Story = t.story("closing, and its refusals", rigged());
     story
         .refuses(ask(2), 12)
         .refuses(ask(16), 12)
         .refuses(ask(4_000_000_000), 12)
         .refuses(ask(u64::MAX), 12)
-        .goes(Call::Turn { session: 0, k: 9, desk: DESK }, 3, |world| {
+        .goes(Call::Turn { session: 0, k: 9 }, 3, |world| {
             let session = ready(18, 1, 32, 1);
             at_record(world, 0).session =
                 Session { kind: Kind::Faulted { number: 1, place: 32 }, ..session };

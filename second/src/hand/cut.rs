@@ -5,7 +5,7 @@
 use super::benches::{close, open, rigged};
 use super::instructions::calls;
 use super::marked::{faulted, opened, ran_out, runs, small_with};
-use super::{at_record, ready, set_bytes, Rig, Table, DESK, RAN_OUT, STEP};
+use super::{at_record, ready, set_bytes, Rig, Table, RAN_OUT, STEP};
 use crate::generate::SMALL;
 use crate::machine::{Kind, Session};
 use crate::world::{Call, World};
@@ -378,19 +378,19 @@ fn rigged_with_cut() -> World {
 fn a_bench_runs_into_a_cut(t: &mut Table) {
     t.says(r#"02, request 8: "the offset of the first byte it could not fetch", in the segment, whatever the store has after it"#);
     t.story("a cut segment before another one", rigged_with_cut())
-        .goes(Call::Turn { session: 0, k: 9, desk: DESK }, 1, |world| {
+        .goes(Call::Turn { session: 0, k: 9 }, 1, |world| {
             at_record(world, 0).session = ran_out(ready(20, 1, 30, 1), 32);
         })
         .sound(true)
-        .goes(Call::Turn { session: 0, k: 9, desk: DESK }, 0, |_| {})
-        .goes(Call::Turn { session: 1, k: 1, desk: DESK }, 1, |world| at_record(world, 1).session.counter = 35)
-        .goes(Call::Open { slot: 2, length: 16, owner: DESK }, 2, |world| open(world, 2, 2, 54, 16, 30))
-        .goes(Call::Turn { session: 2, k: 1, desk: DESK }, 1, |world| {
+        .goes(Call::Turn { session: 0, k: 9 }, 0, |_| {})
+        .goes(Call::Turn { session: 1, k: 1 }, 1, |world| at_record(world, 1).session.counter = 35)
+        .goes(Call::Open { slot: 2, length: 16 }, 2, |world| open(world, 2, 2, 54, 16, 30))
+        .goes(Call::Turn { session: 2, k: 1 }, 1, |world| {
             at_record(world, 2).session = ran_out(ready(16, 1, 30, 1), 32);
         })
         .sound(true)
-        .goes(Call::Close { session: 0, desk: DESK }, 0, |world| close(world, 0))
-        .goes(Call::Close { session: 2, desk: DESK }, 0, |world| close(world, 2))
+        .goes(Call::Close { session: 0 }, 0, |world| close(world, 0))
+        .goes(Call::Close { session: 2 }, 0, |world| close(world, 2))
         .sound(true)
         .end();
 }
@@ -403,18 +403,18 @@ fn records_of_before(t: &mut Table) {
         at_record(&mut world, 0).session = ran_out(ready(20, 1, counter, 1), place);
         t.story(&format!("a record of fault 1 at {place}, counter {counter}"), world)
             .sound(true)
-            .goes(Call::Turn { session: 0, k: 1, desk: DESK }, 0, |_| {})
-            .goes(Call::Turn { session: 0, k: 65_535, desk: DESK }, 0, |_| {})
-            .refuses(Call::Turn { session: 0, k: 65_536, desk: DESK }, 16)
-            .goes(Call::Turn { session: 1, k: 1, desk: DESK }, 1, |world| at_record(world, 1).session.counter = 35)
+            .goes(Call::Turn { session: 0, k: 1 }, 0, |_| {})
+            .goes(Call::Turn { session: 0, k: 65_535 }, 0, |_| {})
+            .refuses(Call::Turn { session: 0, k: 65_536 }, 16)
+            .goes(Call::Turn { session: 1, k: 1 }, 1, |world| at_record(world, 1).session.counter = 35)
             // one of today beside it
-            .goes(Call::Open { slot: 2, length: 16, owner: DESK }, 2, |world| open(world, 2, 2, 54, 16, 30))
-            .goes(Call::Turn { session: 2, k: 9, desk: DESK }, 1, |world| {
+            .goes(Call::Open { slot: 2, length: 16 }, 2, |world| open(world, 2, 2, 54, 16, 30))
+            .goes(Call::Turn { session: 2, k: 9 }, 1, |world| {
                 at_record(world, 2).session = ran_out(ready(16, 1, 30, 1), 32);
             })
             .sound(true)
-            .goes(Call::Turn { session: 0, k: 9, desk: DESK }, 0, |_| {})
-            .goes(Call::Close { session: 0, desk: DESK }, 0, |world| close(world, 0))
+            .goes(Call::Turn { session: 0, k: 9 }, 0, |_| {})
+            .goes(Call::Close { session: 0 }, 0, |world| close(world, 0))
             .sound(true)
             .end();
     }
@@ -442,16 +442,16 @@ fn places_of_any_fault(t: &mut Table) {
         let (name, world) = record(number, place);
         t.story(&name, world)
             .sound(true)
-            .goes(Call::Turn { session: 0, k: 9, desk: DESK }, 0, |_| {})
-            .goes(Call::Close { session: 0, desk: DESK }, 0, |world| close(world, 0))
+            .goes(Call::Turn { session: 0, k: 9 }, 0, |_| {})
+            .goes(Call::Close { session: 0 }, 0, |world| close(world, 0))
             .end();
     }
     for (number, place) in [(1, 0), (1, 21), (1, 33), (1, u64::MAX), (2, 33), (9, 21)] {
         let (name, world) = record(number, place);
         t.story(&name, world)
             .sound(false)
-            .refuses(Call::Turn { session: 0, k: 1, desk: DESK }, 11)
-            .refuses(Call::Close { session: 0, desk: DESK }, 11)
+            .refuses(Call::Turn { session: 0, k: 1 }, 11)
+            .refuses(Call::Close { session: 0 }, 11)
             .end();
     }
 }

@@ -8,7 +8,7 @@ use super::pool::with_first;
 use super::unlinked::swapped;
 use super::{
     at_record, blank_bench, down_to, fill_words, hand_segment, ready, set_bytes, set_words, Rig,
-    Story, Table, DESK,
+    Story, Table,
 };
 use crate::machine::{Fault, Kind, Session};
 use crate::world::{Call, World};
@@ -112,7 +112,7 @@ fn limit(t: &mut Table, sp: u64, low: u64, kind: Kind, sound: bool) {
     if sound {
         return story.end();
     }
-    story.refuses(Call::Turn { session: 1, k: 0, desk: DESK }, 11).refuses(Call::Close { session: 1, desk: DESK }, 11).end();
+    story.refuses(Call::Turn { session: 1, k: 0 }, 11).refuses(Call::Close { session: 1 }, 11).end();
 }
 
 fn limits(t: &mut Table) {
@@ -177,8 +177,8 @@ fn unsound_for_every_entry(t: &mut Table) {
             // session 1 is unsound, whichever is asked
             t.story(&format!("lowest SP {low}, each entry"), marked(20, low, kind))
                 .unsound_everywhere()
-                .refuses(Call::Turn { session: 1, k: 1, desk: DESK }, 11)
-                .refuses(Call::Close { session: 1, desk: DESK }, 11)
+                .refuses(Call::Turn { session: 1, k: 1 }, 11)
+                .refuses(Call::Close { session: 1 }, 11)
                 .goes(Call::New { shared: 0, words: 5 }, 0, |world| {
                     world.bench = blank_bench();
                     world.bench.words = 5;
@@ -195,20 +195,20 @@ fn unused_records(t: &mut Table) {
         at_record(&mut world, 2).session.low = low;
         t.story(&format!("an unused record with {low}"), world)
             .sound(true)
-            .goes(Call::Open { slot: 2, length: 16, owner: DESK }, 2, |world| open(world, 2, 2, 54, 16, 30))
+            .goes(Call::Open { slot: 2, length: 16 }, 2, |world| open(world, 2, 2, 54, 16, 30))
             .sound(true)
-            .goes(Call::Close { session: 2, desk: DESK }, 0, |world| close(world, 2))
+            .goes(Call::Close { session: 2 }, 0, |world| close(world, 2))
             .end();
         // one that stays unused keeps what it has
         let mut world = rigged();
         at_record(&mut world, 9).session.low = low;
         t.story(&format!("an unused record that keeps {low}"), world)
-            .goes(Call::Open { slot: 2, length: 16, owner: DESK }, 2, |world| open(world, 2, 2, 54, 16, 30))
-            .goes(Call::Turn { session: 0, k: 1, desk: DESK }, 1, |world| {
+            .goes(Call::Open { slot: 2, length: 16 }, 2, |world| open(world, 2, 2, 54, 16, 30))
+            .goes(Call::Turn { session: 0, k: 1 }, 1, |world| {
                 at_record(world, 0).session = ready(19, 1, 31, 1);
                 fill_words(&mut world.memory, 4 + 19, &[5]);
             })
-            .goes(Call::Close { session: 1, desk: DESK }, 0, |world| close(world, 1))
+            .goes(Call::Close { session: 1 }, 0, |world| close(world, 1))
             .end();
     }
 }
@@ -221,11 +221,11 @@ fn opening_gives_l(t: &mut Table) {
         let mut world = empty(3, 32_771);
         in_slot(&mut world, 4, 32, 128);
         t.story(&format!("opened with L = {length}"), world)
-            .goes(Call::Open { slot: 4, length, owner: DESK }, 0, |world| {
+            .goes(Call::Open { slot: 4, length }, 0, |world| {
                 open(world, 0, 4, 3, length, 34);
                 at_record(world, 0).session.low = length;
             })
-            .goes(Call::Turn { session: 0, k: 0, desk: DESK }, 0, |_| {})
+            .goes(Call::Turn { session: 0, k: 0 }, 0, |_| {})
             .sound(true)
             .end();
     }
@@ -236,8 +236,8 @@ fn opening_gives_l(t: &mut Table) {
     set_bytes(&mut world.store, 32 + 34, &[156, 5]);
     in_slot(&mut world, 4, 32, 128);
     t.story("opened with L = 6+G", world)
-        .goes(Call::Open { slot: 4, length: 20, owner: DESK }, 0, |world| open(world, 0, 4, 0, 20, 34))
-        .goes(Call::Turn { session: 0, k: 9, desk: DESK }, 2, |world| {
+        .goes(Call::Open { slot: 4, length: 20 }, 0, |world| open(world, 0, 4, 0, 20, 34))
+        .goes(Call::Turn { session: 0, k: 9 }, 2, |world| {
             let full = Kind::Faulted { number: 4, place: 35 };
             at_record(world, 0).session = Session { kind: full, ..ready(20, 1, 35, 1) };
         })
@@ -271,28 +271,28 @@ fn the_largest(t: &mut Table) {
 fn closing_gives_0(t: &mut Table) {
     t.says(r#"02, request 3: "since opening"; a closed record is as an unused one, and the next opening starts anew"#);
     t.story("deep, closed, opened again", rigged())
-        .goes(Call::Turn { session: 0, k: 2, desk: DESK }, 2, |world| {
+        .goes(Call::Turn { session: 0, k: 2 }, 2, |world| {
             at_record(world, 0).session = down_to(18, ready(18, 1, 32, 1));
             fill_words(&mut world.memory, 4 + 18, &[7, 5]);
         })
-        .goes(Call::Close { session: 0, desk: DESK }, 0, |world| {
+        .goes(Call::Close { session: 0 }, 0, |world| {
             close(world, 0);
             at_record(world, 0).session.low = 0;
         })
-        .goes(Call::Open { slot: 2, length: 17, owner: DESK }, 0, |world| open(world, 0, 2, 4, 17, 30))
-        .goes(Call::Turn { session: 0, k: 1, desk: DESK }, 1, |world| {
+        .goes(Call::Open { slot: 2, length: 17 }, 0, |world| open(world, 0, 2, 4, 17, 30))
+        .goes(Call::Turn { session: 0, k: 1 }, 1, |world| {
             at_record(world, 0).session = down_to(16, ready(16, 1, 31, 1));
             fill_words(&mut world.memory, 4 + 16, &[5]);
         })
-        .goes(Call::Close { session: 0, desk: DESK }, 0, |world| close(world, 0))
-        .goes(Call::Open { slot: 15, length: 20, owner: DESK }, 0, |world| open(world, 0, 15, 4, 20, 34))
+        .goes(Call::Close { session: 0 }, 0, |world| close(world, 0))
+        .goes(Call::Open { slot: 15, length: 20 }, 0, |world| open(world, 0, 15, 4, 20, 34))
         .sound(true)
         .end();
     // of any kind, and with a mark anywhere
     for (low, kind) in [(8, Kind::Ready), (20, Kind::Finished), (13, FULL)] {
         t.story(&format!("closed at {low}"), marked(20, low, kind))
-            .goes(Call::Close { session: 1, desk: DESK }, 0, |world| close(world, 1))
-            .goes(Call::Open { slot: 15, length: 29, owner: DESK }, 1, |world| open(world, 1, 15, 24, 29, 34))
+            .goes(Call::Close { session: 1 }, 0, |world| close(world, 1))
+            .goes(Call::Open { slot: 15, length: 29 }, 1, |world| open(world, 1, 15, 24, 29, 34))
             .end();
     }
 }
@@ -306,7 +306,7 @@ fn new_benches_have_0(t: &mut Table) {
             world.bench = bench;
         })
         .goes(Call::Load { slot: 1, start: 0, length: 32 }, 0, |world| in_slot(world, 1, 0, 32))
-        .goes(Call::Open { slot: 1, length: 20, owner: DESK }, 0, |world| open(world, 0, 1, 4, 20, 30))
+        .goes(Call::Open { slot: 1, length: 20 }, 0, |world| open(world, 0, 1, 4, 20, 30))
         .end();
 }
 
@@ -608,11 +608,11 @@ fn no_steps(of: &mut Sexed) {
             let mut world = opened(&bytes, 40, 34);
             at_record(&mut world, 0).session = Session { kind, ..down_to(low, ready(sp, 1, 34, 1)) };
             let story = of.story(&format!("SP {sp}, lowest {low}, {kind:?}: no step"), world);
-            let story = story.goes(Call::Turn { session: 0, k: 0, desk: DESK }, 0, |_| {});
+            let story = story.goes(Call::Turn { session: 0, k: 0 }, 0, |_| {});
             if kind == Kind::Ready {
                 story.end();
             } else {
-                story.goes(Call::Turn { session: 0, k: 65_535, desk: DESK }, 0, |_| {}).end();
+                story.goes(Call::Turn { session: 0, k: 65_535 }, 0, |_| {}).end();
             }
         }
     }
@@ -696,7 +696,7 @@ fn split_turns(of: &mut Sexed) {
                 Some((session, low, _)) => {
                     runs(story, *k as u64, *k as u64, down_to(*low, *session), &words)
                 }
-                None => story.goes(Call::Turn { session: 0, k: 0, desk: DESK }, 0, |_| {}),
+                None => story.goes(Call::Turn { session: 0, k: 0 }, 0, |_| {}),
             };
         }
         story.end();
@@ -741,15 +741,15 @@ fn sessions_apart(t: &mut Table) {
         open(&mut world, number, 0, base, 20, 30);
     }
     at_record(&mut world, 3).session.low = 8;
-    let turn = |session, k| Call::Turn { session, k, desk: DESK };
+    let turn = |session, k| Call::Turn { session, k };
     t.story("three sessions on one segment, turn by turn", world)
         .goes(turn(15, 1), 1, |world| small(world, 15, 42, 19, 19))
         .goes(turn(3, 2), 2, |world| small(world, 3, 22, 18, 8))
         .goes(turn(0, 2), 2, |world| small(world, 0, 2, 18, 18))
         .goes(turn(15, 0), 0, |_| {})
         .goes(turn(15, 1), 1, |world| small(world, 15, 42, 18, 18))
-        .goes(Call::Close { session: 3, desk: DESK }, 0, |world| close(world, 3))
-        .goes(Call::Open { slot: 0, length: 17, owner: DESK }, 1, |world| open(world, 1, 0, 22, 17, 30))
+        .goes(Call::Close { session: 3 }, 0, |world| close(world, 3))
+        .goes(Call::Open { slot: 0, length: 17 }, 1, |world| open(world, 1, 0, 22, 17, 30))
         .goes(turn(1, 1), 1, |world| small(world, 1, 22, 16, 16))
         .sound(true)
         .end();
@@ -757,8 +757,8 @@ fn sessions_apart(t: &mut Table) {
     t.story("refusals", marked(20, 9, Kind::Ready))
         .refuses(turn(1, 65_536), 16)
         .refuses(turn(7, 1), 12)
-        .refuses(Call::Open { slot: 15, length: 15, owner: DESK }, 13)
-        .refuses(Call::Open { slot: 15, length: 900, owner: DESK }, 15)
+        .refuses(Call::Open { slot: 15, length: 15 }, 13)
+        .refuses(Call::Open { slot: 15, length: 900 }, 15)
         .refuses(Call::Load { slot: 15, start: 0, length: 32 }, 12)
         .end();
 }

@@ -2,7 +2,7 @@
 //! here", as far as they are requests.
 
 use super::{
-    at_record, down_to, fill_words, hand_segment, most_first, ready, set_bytes, set_words, Story, Table, DESK,
+    at_record, down_to, fill_words, hand_segment, most_first, ready, set_bytes, set_words, Story, Table,
 };
 use crate::bench::{Record, Slot, Window};
 use crate::generate::SMALL;
@@ -45,7 +45,7 @@ pub fn opened(bytes: &[u8], length: u64, start: u64) -> World {
     (bench.shared, bench.words) = (2, length + 4);
     bench.slots[0] = Slot { loaded: true, start: 0, length: bytes.len() as u64 };
     let (session, window) = (ready(length, 1, start, 1), Window::all(2));
-    bench.records[0] = Record { open: true, slot: 0, base: 2, length, window, owner: DESK, session };
+    bench.records[0] = Record { open: true, slot: 0, base: 2, length, window, session };
     let mut memory = vec![9; length as usize + 4];
     fill_words(&mut memory, 2, &vec![0; length as usize]);
     World { bench, memory, store: bytes.to_vec() }
@@ -53,7 +53,7 @@ pub fn opened(bytes: &[u8], length: u64, start: u64) -> World {
 
 /// Steps of session 0: the session after them, and words of its region.
 pub fn runs<'a>(story: Story<'a>, k: u64, done: u64, session: Session, words: &[(usize, &[u16])]) -> Story<'a> {
-    story.goes(Call::Turn { session: 0, k, desk: DESK }, done, |world| {
+    story.goes(Call::Turn { session: 0, k }, done, |world| {
         at_record(world, 0).session = session;
         for (at, words) in words {
             fill_words(&mut world.memory, 2 + at, words);
@@ -155,7 +155,7 @@ fn where_code_starts(t: &mut Table) {
     start.bench.records[0] = Record::UNUSED;
     start.memory.fill(9);
     t.story("opening starts at 34", start)
-        .goes(Call::Open { slot: 0, length: 16, owner: DESK }, 0, |world| {
+        .goes(Call::Open { slot: 0, length: 16 }, 0, |world| {
             *at_record(world, 0) = record;
             fill_words(&mut world.memory, 2, &[0; 16]);
         })
@@ -204,15 +204,15 @@ fn a_cleared_region(t: &mut Table) {
     start.bench.records[0] = Record::UNUSED;
     start.memory.fill(65_535);
     t.story("opening clears, closing clears", start)
-        .goes(Call::Open { slot: 0, length: 20, owner: DESK }, 0, |world| {
+        .goes(Call::Open { slot: 0, length: 20 }, 0, |world| {
             *at_record(world, 0) = record;
             fill_words(&mut world.memory, 2, &[0; 20]);
         })
-        .goes(Call::Turn { session: 0, k: 2, desk: DESK }, 2, |world| {
+        .goes(Call::Turn { session: 0, k: 2 }, 2, |world| {
             at_record(world, 0).session = ready(18, 1, 32, 1);
             fill_words(&mut world.memory, 2 + 18, &[7, 5]);
         })
-        .goes(Call::Close { session: 0, desk: DESK }, 0, |world| {
+        .goes(Call::Close { session: 0 }, 0, |world| {
             *at_record(world, 0) = Record::UNUSED;
             fill_words(&mut world.memory, 2, &[0; 20]);
         })

@@ -7,7 +7,7 @@ use super::marked::opened;
 use super::segments::{hand_numbers, hand_with};
 use super::unlinked::{swapped, unloaded};
 use super::{
-    at_record, down_to, fill_words, hand_segment, most_first, ready, set_bytes, set_sp, set_words, Table, DESK,
+    at_record, down_to, fill_words, hand_segment, most_first, ready, set_bytes, set_sp, set_words, Table,
 };
 use crate::generate::SMALL;
 use crate::machine::{Kind, Session};
@@ -217,7 +217,7 @@ fn loading_judges_it(t: &mut Table) {
                 .refuses(Call::Load { slot: 0, start: 3, length: 128 }, 17)
                 .refuses(load, 4)
                 .sound(true)
-                .refuses(Call::Open { slot: 0, length: 16, owner: DESK }, 12)
+                .refuses(Call::Open { slot: 0, length: 16 }, 12)
                 .end();
         }
     }
@@ -228,9 +228,9 @@ fn loading_judges_it(t: &mut Table) {
                 .goes(load, 0, |world| in_slot(world, 0, 2, 128))
                 .sound(true)
                 .refuses(load, 12)
-                .goes(Call::Open { slot: 0, length: 16, owner: DESK }, 0, |world| open(world, 0, 0, 4, 16, 34))
-                .goes(Call::Turn { session: 0, k: 1, desk: DESK }, 1, |world| at_record(world, 0).session.counter = 35)
-                .goes(Call::Close { session: 0, desk: DESK }, 0, |world| close(world, 0))
+                .goes(Call::Open { slot: 0, length: 16 }, 0, |world| open(world, 0, 0, 4, 16, 34))
+                .goes(Call::Turn { session: 0, k: 1 }, 1, |world| at_record(world, 0).session.counter = 35)
+                .goes(Call::Close { session: 0 }, 0, |world| close(world, 0))
                 .end();
         }
     }
@@ -267,31 +267,31 @@ fn a_bench_with_units(t: &mut Table) {
         t.story(name, unloaded(&units(most_first)))
             .goes(Call::Load { slot: 7, start: 2, length: 128 }, 0, |world| in_slot(world, 7, 2, 128))
             .sound(true)
-            .goes(Call::Open { slot: 7, length: 20, owner: DESK }, 0, |world| open(world, 0, 7, 4, 20, 34))
+            .goes(Call::Open { slot: 7, length: 20 }, 0, |world| open(world, 0, 7, 4, 20, 34))
             // up to the first LDC and with it
-            .goes(Call::Turn { session: 0, k: 6, desk: DESK }, 6, |world| {
+            .goes(Call::Turn { session: 0, k: 6 }, 6, |world| {
                 fill_words(&mut world.memory, 4 + 6, &[1]);
                 fill_words(&mut world.memory, 4 + 18, &[0x5678, 0x1234]);
                 at_record(world, 0).session = ready(18, 1, 47, 1);
             })
             .sound(true)
-            .goes(Call::Turn { session: 0, k: 3, desk: DESK }, 3, |world| {
+            .goes(Call::Turn { session: 0, k: 3 }, 3, |world| {
                 fill_words(&mut world.memory, 4 + 7, &[0x1234]);
                 at_record(world, 0).session = ready(20, 1, 34, 1);
             })
-            .goes(Call::Turn { session: 0, k: 8, desk: DESK }, 8, |world| {
+            .goes(Call::Turn { session: 0, k: 8 }, 8, |world| {
                 fill_words(&mut world.memory, 4 + 6, &[2, second]);
                 fill_words(&mut world.memory, 4 + 19, &[second]);
                 at_record(world, 0).session = ready(20, 1, 34, 1);
             })
-            .goes(Call::Turn { session: 0, k: 100, desk: DESK }, 6, |world| {
+            .goes(Call::Turn { session: 0, k: 100 }, 6, |world| {
                 fill_words(&mut world.memory, 4 + 6, &[3]);
                 fill_words(&mut world.memory, 4 + 19, &[3]);
                 at_record(world, 0).session = finished;
             })
             .sound(true)
-            .goes(Call::Turn { session: 0, k: 100, desk: DESK }, 0, |_| {})
-            .goes(Call::Close { session: 0, desk: DESK }, 0, |world| close(world, 0))
+            .goes(Call::Turn { session: 0, k: 100 }, 0, |_| {})
+            .goes(Call::Close { session: 0 }, 0, |world| close(world, 0))
             .end();
     }
 }
@@ -307,19 +307,19 @@ fn sessions_on_one_pool(t: &mut Table) {
             at_record(world, number).session = down_to(length as u64 - 2, finished);
         };
         t.story("two sessions on one report with units", opened(&units(most_first), 16, 34))
-            .goes(Call::Turn { session: 0, k: 65_535, desk: DESK }, 23, |world| run(world, 0, 2, 16))
+            .goes(Call::Turn { session: 0, k: 65_535 }, 23, |world| run(world, 0, 2, 16))
             .sound(true)
-            .refuses(Call::Open { slot: 0, length: 16, owner: DESK }, 15)
-            .goes(Call::Close { session: 0, desk: DESK }, 0, |world| close(world, 0))
-            .goes(Call::Open { slot: 0, length: 18, owner: DESK }, 0, |world| open(world, 0, 0, 2, 18, 34))
-            .goes(Call::Turn { session: 0, k: 23, desk: DESK }, 23, |world| run(world, 0, 2, 18))
+            .refuses(Call::Open { slot: 0, length: 16 }, 15)
+            .goes(Call::Close { session: 0 }, 0, |world| close(world, 0))
+            .goes(Call::Open { slot: 0, length: 18 }, 0, |world| open(world, 0, 0, 2, 18, 34))
+            .goes(Call::Turn { session: 0, k: 23 }, 23, |world| run(world, 0, 2, 18))
             .end();
         // no room for two words: 6+G is 8, SP 9
         let mut world = opened(&units(most_first), 16, 43);
         set_sp(at_record(&mut world, 0), 9);
         let full = Session { kind: Kind::Faulted { number: 4, place: 43 }, ..ready(9, 1, 43, 1) };
         t.story("no room for the unit", world)
-            .goes(Call::Turn { session: 0, k: 9, desk: DESK }, 1, |world| at_record(world, 0).session = full)
+            .goes(Call::Turn { session: 0, k: 9 }, 1, |world| at_record(world, 0).session = full)
             .sound(true)
             .end();
     }

@@ -4,7 +4,7 @@
 use super::benches::{empty, in_slot, rigged};
 use super::pool::{turned_with_first, with_first};
 use super::segments::hand_with;
-use super::{at_record, ready, set_sp, set_words, Table, DESK};
+use super::{at_record, ready, set_sp, set_words, Table};
 use crate::bench::{Record, Slot, Window};
 use crate::machine::Kind;
 use crate::world::World;
@@ -293,7 +293,7 @@ fn soundness_of_l_against_6_and_g(t: &mut Table) {
         in_slot(&mut world, 0, 0, 32);
         let (session, window) = (ready(20, 1, 30, 1), Window::NONE);
         *at_record(&mut world, 0) =
-            Record { open: true, slot: 0, base: 0, length, window, owner: DESK, session };
+            Record { open: true, slot: 0, base: 0, length, window, session };
         t.story(&format!("L = {length}"), world).sound(good).end();
     }
 }

@@ -5,7 +5,7 @@ use super::benches::{close, in_slot, open};
 use super::marked::{faulted, opened, runs};
 use super::segments::{hand_numbers, hand_with, many};
 use super::{
-    at_record, down_to, fill_words, hand_segment, ready, routine, set_bytes, set_words, Rig, Table, DESK,
+    at_record, down_to, fill_words, hand_segment, ready, routine, set_bytes, set_words, Rig, Table,
 };
 use crate::generate::SMALL;
 use crate::segment::Routine;
@@ -436,25 +436,25 @@ fn a_bench_of_unlinked_routines(t: &mut Table) {
         t.story(name, unloaded(&bytes))
             .goes(Call::Load { slot: 7, start: 2, length: 128 }, 0, |world| in_slot(world, 7, 2, 128))
             .sound(true)
-            .goes(Call::Open { slot: 7, length: 20, owner: DESK }, 0, |world| open(world, 0, 7, 4, 20, 34))
-            .goes(Call::Open { slot: 7, length: 16, owner: DESK }, 1, |world| open(world, 1, 7, 24, 16, 34))
+            .goes(Call::Open { slot: 7, length: 20 }, 0, |world| open(world, 0, 7, 4, 20, 34))
+            .goes(Call::Open { slot: 7, length: 16 }, 1, |world| open(world, 1, 7, 24, 16, 34))
             .sound(true)
             // one step, then the call
-            .goes(Call::Turn { session: 0, k: 9, desk: DESK }, 2, |world| {
+            .goes(Call::Turn { session: 0, k: 9 }, 2, |world| {
                 fill_words(&mut world.memory, 4 + 19, &[5]);
                 at_record(world, 0).session = stopped;
             })
             .sound(true)
-            .goes(Call::Turn { session: 0, k: 9, desk: DESK }, 0, |_| {})
-            .goes(Call::Turn { session: 1, k: 1, desk: DESK }, 1, |world| {
+            .goes(Call::Turn { session: 0, k: 9 }, 0, |_| {})
+            .goes(Call::Turn { session: 1, k: 1 }, 1, |world| {
                 fill_words(&mut world.memory, 24 + 15, &[5]);
                 at_record(world, 1).session = ready(15, 1, 35, 1);
             })
-            .goes(Call::Close { session: 0, desk: DESK }, 0, |world| close(world, 0))
-            .goes(Call::Turn { session: 1, k: 1, desk: DESK }, 1, |world| {
+            .goes(Call::Close { session: 0 }, 0, |world| close(world, 0))
+            .goes(Call::Turn { session: 1, k: 1 }, 1, |world| {
                 at_record(world, 1).session = faulted(ready(15, 1, 35, 1), 8);
             })
-            .goes(Call::Close { session: 1, desk: DESK }, 0, |world| close(world, 1))
+            .goes(Call::Close { session: 1 }, 0, |world| close(world, 1))
             .end();
     }
 }
@@ -535,9 +535,9 @@ fn loading_judges(t: &mut Table) {
     set_words(&mut world.store[2..], &[(13, 0)]);
     t.story("a session's routine unlinked beneath it", world)
         .sound(true)
-        .goes(Call::Turn { session: 0, k: 2, desk: DESK }, 2, |world| {
+        .goes(Call::Turn { session: 0, k: 2 }, 2, |world| {
             at_record(world, 0).session = ready(12, 12, 84, 2);
         })
-        .goes(Call::Close { session: 0, desk: DESK }, 0, |world| close(world, 0))
+        .goes(Call::Close { session: 0 }, 0, |world| close(world, 0))
         .end();
 }

@@ -4,7 +4,7 @@
 
 use super::benches::{close, empty, in_slot, open, rigged};
 use super::{
-    at_record, blank_bench, down_to, fill_words, hand_segment, ready, set_bytes, Rig, Story, Table, DESK,
+    at_record, blank_bench, down_to, fill_words, hand_segment, ready, set_bytes, Rig, Story, Table,
 };
 use crate::bench::Window;
 use crate::machine::{Kind, Session};
@@ -84,7 +84,7 @@ fn judged(t: &mut Table, name: &str, shared: &[u16], accepted: bool) {
     story
         .denies(Request::Farm(farm), 23)
         .denies(Request::Farm(40_404), 23)
-        .refuses(Call::OpenFor { slot: 15, length: 20, farm, owner: DESK }, 23)
+        .refuses(Call::OpenFor { slot: 15, length: 20, farm }, 23)
         .end();
 }
 
@@ -203,7 +203,7 @@ fn large_archives(t: &mut Table) {
         .accepts(true)
         .finds(7, 0, 32_764)
         .finds(8, 32_764, 4)
-        .goes(Call::OpenFor { slot: 15, length: 16, farm: 8, owner: DESK }, 0, |world| {
+        .goes(Call::OpenFor { slot: 15, length: 16, farm: 8 }, 0, |world| {
             open_on(world, 0, 15, 32_768, 16, (32_764, 4));
         })
         .end();
@@ -286,11 +286,11 @@ fn open_on(world: &mut World, number: usize, slot: u64, base: u64, length: u64, 
 }
 
 fn asks_on(slot: u64, length: u64, (first, count): (u64, u64)) -> Call {
-    Call::OpenOn { slot, length, window: Window { first, count }, owner: DESK }
+    Call::OpenOn { slot, length, window: Window { first, count } }
 }
 
 fn asks_for(slot: u64, length: u64, farm: u64) -> Call {
-    Call::OpenFor { slot, length, farm, owner: DESK }
+    Call::OpenFor { slot, length, farm }
 }
 
 fn openings_with_a_window(t: &mut Table) {
@@ -300,9 +300,9 @@ fn openings_with_a_window(t: &mut Table) {
         t.story(&format!("S = 10, window {window:?}"), with_shared(&[5; 10]))
             .goes(asks_on(15, 20, window), 0, |world| open_on(world, 0, 15, 10, 20, window))
             .sound(true)
-            .goes(Call::Turn { session: 0, k: 0, desk: DESK }, 0, |_| {})
+            .goes(Call::Turn { session: 0, k: 0 }, 0, |_| {})
             .goes(asks_on(2, 16, window), 1, |world| open_on(world, 1, 2, 30, 16, window))
-            .goes(Call::Close { session: 0, desk: DESK }, 0, |world| close(world, 0))
+            .goes(Call::Close { session: 0 }, 0, |world| close(world, 0))
             .end();
     }
     // the archive is not asked for: S = 10 is none, and farms that fall do not matter
@@ -379,7 +379,7 @@ fn older_openings(t: &mut Table) {
     t.says(r#"02, request 7: "older openings have all S words""#);
     for shared in [0, 1, 4, 5, 10, 32_768] {
         t.story(&format!("S = {shared}, the older opening"), large(shared, &[]))
-            .goes(Call::Open { slot: 15, length: 16, owner: DESK }, 0, |world| {
+            .goes(Call::Open { slot: 15, length: 16 }, 0, |world| {
                 open_on(world, 0, 15, shared, 16, (0, shared));
             })
             .sound(true)
@@ -388,7 +388,7 @@ fn older_openings(t: &mut Table) {
     // also where the archive is refused
     t.story("the older opening on farms that fall", with_shared(&archive(&[7, 6])))
         .accepts(false)
-        .goes(Call::Open { slot: 2, length: 16, owner: DESK }, 0, |world| open_on(world, 0, 2, 8, 16, (0, 8)))
+        .goes(Call::Open { slot: 2, length: 16 }, 0, |world| open_on(world, 0, 2, 8, 16, (0, 8)))
         .end();
 }
 
@@ -517,7 +517,7 @@ fn sixteen_and_one(t: &mut Table) {
         .refuses(asks_for(16, 2_000, 7), 12)
         .refuses(asks_on(0, 16, (0, 8)), 12)
         .refuses(asks_on(16, 2_000, (0, 8)), 12)
-        .goes(Call::Close { session: 9, desk: DESK }, 0, |world| close(world, 9))
+        .goes(Call::Close { session: 9 }, 0, |world| close(world, 9))
         .goes(asks_for(2, 16, 7), 9, |world| open_on(world, 9, 2, 152, 16, (4, 4)))
         .end();
     t.story("sixteen sessions, one more, and farms that fall", sixteen(&[7, 6]))
@@ -571,9 +571,9 @@ fn windows_in_soundness(t: &mut Table) {
             let (number, other) = (at % 2, 1 - at % 2);
             t.story(&format!("session {number} {name}, window {window:?}: unsound"), windowed(number, kind, window))
                 .sound(false)
-                .refuses(Call::Turn { session: number as u64, k: 0, desk: DESK }, 11)
-                .refuses(Call::Turn { session: other as u64, k: 1, desk: DESK }, 11)
-                .refuses(Call::Close { session: number as u64, desk: DESK }, 11)
+                .refuses(Call::Turn { session: number as u64, k: 0 }, 11)
+                .refuses(Call::Turn { session: other as u64, k: 1 }, 11)
+                .refuses(Call::Close { session: number as u64 }, 11)
                 .end();
         }
     }
@@ -598,7 +598,7 @@ fn windows_of_each_record(t: &mut Table) {
         at_record(&mut world, bad).window = Window { first: 1, count: 4 };
         t.story(&format!("sixteen sessions, the window of {bad} bad"), world)
             .sound(false)
-            .refuses(Call::Turn { session: 15 - bad as u64, k: 0, desk: DESK }, 11)
+            .refuses(Call::Turn { session: 15 - bad as u64, k: 0 }, 11)
             .end();
     }
 }
@@ -657,9 +657,9 @@ fn unused_records(t: &mut Table) {
         at_record(&mut world, 2).window = Window { first, count };
         t.story(&format!("an unused record with window {window:?}"), world)
             .sound(true)
-            .goes(Call::Open { slot: 2, length: 16, owner: DESK }, 2, |world| open(world, 2, 2, 54, 16, 30))
+            .goes(Call::Open { slot: 2, length: 16 }, 2, |world| open(world, 2, 2, 54, 16, 30))
             .sound(true)
-            .goes(Call::Close { session: 2, desk: DESK }, 0, |world| close(world, 2))
+            .goes(Call::Close { session: 2 }, 0, |world| close(world, 2))
             .goes(asks_on(2, 17, (1, 2)), 2, |world| open_on(world, 2, 2, 54, 17, (1, 2)))
             .end();
         // one that stays unused keeps what it has
@@ -667,11 +667,11 @@ fn unused_records(t: &mut Table) {
         at_record(&mut world, 9).window = Window { first, count };
         t.story(&format!("an unused record that keeps window {window:?}"), world)
             .goes(asks_on(2, 16, (4, 0)), 2, |world| open_on(world, 2, 2, 54, 16, (4, 0)))
-            .goes(Call::Turn { session: 0, k: 1, desk: DESK }, 1, |world| {
+            .goes(Call::Turn { session: 0, k: 1 }, 1, |world| {
                 at_record(world, 0).session = ready(19, 1, 31, 1);
                 fill_words(&mut world.memory, 4 + 19, &[5]);
             })
-            .goes(Call::Close { session: 1, desk: DESK }, 0, |world| close(world, 1))
+            .goes(Call::Close { session: 1 }, 0, |world| close(world, 1))
             .end();
     }
     // the rigged archive is four words of 9, one record
@@ -880,7 +880,7 @@ fn the_largest_region(t: &mut Table, most_first: bool) {
         let fault = Kind::Faulted { number: 6, place: 35 };
         let name = sexed(&format!("L = 32,768, {code:?} on {address}"), most_first);
         t.story(&name, world)
-            .goes(Call::Turn { session: 0, k: 1, desk: DESK }, 1, |world| match word {
+            .goes(Call::Turn { session: 0, k: 1 }, 1, |world| match word {
                 Some(word) => {
                     // 32,767 by index 0 or 32,766 by 1 is the address itself
                     world.memory[4 + 32_767] = if word > 1_000 { address } else { word };
@@ -905,7 +905,7 @@ fn the_largest_region_stores(t: &mut Table, most_first: bool) {
         fill_words(&mut world.memory, 4 + 32_766, &[77, address]);
         let name = sexed(&format!("L = 32,768, a store to {address}"), most_first);
         t.story(&name, world)
-            .goes(Call::Turn { session: 0, k: 1, desk: DESK }, 1, |world| {
+            .goes(Call::Turn { session: 0, k: 1 }, 1, |world| {
                 if good {
                     world.memory[4 + 32_767] = 77;
                     at_record(world, 0).session = down_to(32_766, ready(32_768, 1, 35, 1));
@@ -939,7 +939,7 @@ fn the_largest_window(t: &mut Table, most_first: bool) {
             world.memory[32_768 + 15] = address - index;
             let fault = Kind::Faulted { number: 6, place: 36 };
             t.story(&sexed(&format!("S = 32,768, window {window:?}, {address} by {code:?}"), most_first), world)
-                .goes(Call::Turn { session: 0, k: 1, desk: DESK }, 1, |world| match word {
+                .goes(Call::Turn { session: 0, k: 1 }, 1, |world| match word {
                     Some(word) => {
                         world.memory[32_768 + 15] = word;
                         at_record(world, 0).session.counter = 36 + code.len() as u64;
@@ -978,7 +978,7 @@ fn reported(world: &mut World, number: usize, seen: &[u16]) {
 /// The steps done: six, or as many as the first word not seen has before it.
 fn reports<'a>(story: Story<'a>, number: usize, seen: &[u16]) -> Story<'a> {
     let done = (2 * seen.len() as u64 + 2).min(6);
-    story.goes(Call::Turn { session: number as u64, k: 6, desk: DESK }, done, |world| reported(world, number, seen))
+    story.goes(Call::Turn { session: number as u64, k: 6 }, done, |world| reported(world, number, seen))
 }
 
 /// Farms 2, 5, 5, 9: concentrations 40,000, 39,999, 39,998, 39,997.
@@ -991,7 +991,7 @@ fn farms_side_by_side(t: &mut Table, most_first: bool) {
         .goes(asks_for(15, 20, 9), 0, |world| open_on(world, 0, 15, 16, 20, (12, 4)))
         .goes(asks_for(15, 20, 5), 1, |world| open_on(world, 1, 15, 36, 20, (4, 8)))
         .goes(asks_for(15, 20, 2), 2, |world| open_on(world, 2, 15, 56, 20, (0, 4)))
-        .goes(Call::Open { slot: 15, length: 20, owner: DESK }, 3, |world| open_on(world, 3, 15, 76, 20, (0, 16)))
+        .goes(Call::Open { slot: 15, length: 20 }, 3, |world| open_on(world, 3, 15, 76, 20, (0, 16)))
         .goes(asks_on(15, 20, (8, 5)), 4, |world| open_on(world, 4, 15, 96, 20, (8, 5)))
         .goes(asks_on(15, 20, (7, 4)), 5, |world| open_on(world, 5, 15, 116, 20, (7, 4)))
         .sound(true);
@@ -1010,7 +1010,7 @@ fn farms_side_by_side(t: &mut Table, most_first: bool) {
         .goes(asks_for(15, 20, 9), 0, |world| open_on(world, 0, 15, 16, 20, (12, 4)))
         .goes(asks_for(15, 20, 5), 1, |world| open_on(world, 1, 15, 36, 20, (4, 8)));
     for (number, base, farm) in [(0, 16, 9), (1, 36, 5)] {
-        let turn = Call::Turn { session: number, k: 1, desk: DESK };
+        let turn = Call::Turn { session: number, k: 1 };
         story = story.goes(turn, 1, |world| {
             at_record(world, number as usize).session = ready(19, 1, 37, 1);
             fill_words(&mut world.memory, base + 19, &[32_768]);
@@ -1031,7 +1031,7 @@ fn one_farm_twice(t: &mut Table, most_first: bool) {
         .goes(asks_for(15, 20, 5), 1, |world| open_on(world, 1, 15, 36, 20, (4, 8)));
     let story = reports(story, 1, &[5, 39_999, 5]);
     let story = reports(story, 0, &[5, 39_999, 5]);
-    story.goes(Call::Turn { session: 0, k: 0, desk: DESK }, 0, |_| {}).end();
+    story.goes(Call::Turn { session: 0, k: 0 }, 0, |_| {}).end();
 }
 
 fn a_farm_without_records(t: &mut Table, most_first: bool) {
@@ -1055,17 +1055,17 @@ fn closed_and_opened_again(t: &mut Table, most_first: bool) {
     let story = t.story(&sexed("farm 5, closed, then others in the same record", most_first), world)
         .goes(asks_for(15, 20, 5), 0, |world| open_on(world, 0, 15, 16, 20, (4, 8)));
     let story = reports(story, 0, &[5, 39_999, 5])
-        .goes(Call::Close { session: 0, desk: DESK }, 0, |world| close(world, 0))
+        .goes(Call::Close { session: 0 }, 0, |world| close(world, 0))
         .goes(asks_for(15, 20, 9), 0, |world| open_on(world, 0, 15, 16, 20, (12, 4)));
     let story = reports(story, 0, &[9, 39_997])
-        .goes(Call::Close { session: 0, desk: DESK }, 0, |world| close(world, 0))
-        .goes(Call::Open { slot: 15, length: 20, owner: DESK }, 0, |world| open_on(world, 0, 15, 16, 20, (0, 16)));
+        .goes(Call::Close { session: 0 }, 0, |world| close(world, 0))
+        .goes(Call::Open { slot: 15, length: 20 }, 0, |world| open_on(world, 0, 15, 16, 20, (0, 16)));
     let story = reports(story, 0, &[2, 40_000, 5])
-        .goes(Call::Close { session: 0, desk: DESK }, 0, |world| close(world, 0))
+        .goes(Call::Close { session: 0 }, 0, |world| close(world, 0))
         .goes(asks_for(15, 20, 4), 0, |world| open_on(world, 0, 15, 16, 20, (0, 0)));
     reports(story, 0, &[])
-        .goes(Call::Close { session: 0, desk: DESK }, 0, |world| close(world, 0))
-        .refuses(Call::Close { session: 0, desk: DESK }, 12)
+        .goes(Call::Close { session: 0 }, 0, |world| close(world, 0))
+        .refuses(Call::Close { session: 0 }, 12)
         .end();
 }
 
@@ -1075,7 +1075,7 @@ fn words_that_change(t: &mut Table, most_first: bool) {
     let first = sexed("farm 5, its first read", most_first);
     let story = t.story(&first, world)
         .goes(asks_for(15, 20, 5), 0, |world| open_on(world, 0, 15, 16, 20, (4, 8)))
-        .goes(Call::Turn { session: 0, k: 2, desk: DESK }, 2, |world| {
+        .goes(Call::Turn { session: 0, k: 2 }, 2, |world| {
             at_record(world, 0).session = ready(19, 1, 38, 1);
             fill_words(&mut world.memory, 16 + 19, &[5]);
         });
@@ -1085,18 +1085,18 @@ fn words_that_change(t: &mut Table, most_first: bool) {
             (world.memory[7], world.memory[8]) = (1_234, 8);
         })
         .finds(5, 4, 4)
-        .goes(Call::Turn { session: 0, k: 4, desk: DESK }, 4, |world| {
+        .goes(Call::Turn { session: 0, k: 4 }, 4, |world| {
             at_record(world, 0).session = ready(17, 1, 46, 1);
             fill_words(&mut world.memory, 16 + 17, &[8, 1_234, 5]);
         })
-        .goes(Call::Turn { session: 0, k: 1, desk: DESK }, 1, |world| at_record(world, 0).session = ready(17, 1, 47, 1));
+        .goes(Call::Turn { session: 0, k: 1 }, 1, |world| at_record(world, 0).session = ready(17, 1, 47, 1));
     // the archive is refused now; the session goes on
     story
         .then(&sexed("then an archive that is refused", most_first), |world| world.memory[0] = 6)
         .sound(true)
         .accepts(false)
         .denies(Request::Farm(5), 23)
-        .goes(Call::Turn { session: 0, k: 1, desk: DESK }, 1, |world| at_record(world, 0).session = ready(17, 1, 48, 1))
+        .goes(Call::Turn { session: 0, k: 1 }, 1, |world| at_record(world, 0).session = ready(17, 1, 48, 1))
         .refuses(asks_for(15, 20, 5), 23)
         .goes(asks_on(15, 20, (4, 8)), 1, |world| open_on(world, 1, 15, 36, 20, (4, 8)))
         .end();
@@ -1176,7 +1176,7 @@ fn two_worlds(t: &mut Table, most_first: bool) {
 /// 700 to global 1, 650 to global 2, 50 on the stack, then the word after the
 /// farm's records: fault 6.  The same numbers in every world.
 fn same_answers<'a>(story: Story<'a>, number: usize, base: usize) -> Story<'a> {
-    let turn = |k| Call::Turn { session: number as u64, k, desk: DESK };
+    let turn = |k| Call::Turn { session: number as u64, k };
     story
         .goes(turn(3), 3, |world| {
             at_record(world, number).session = down_to(23, ready(24, 1, 40, 1));

@@ -8,12 +8,12 @@ returns : tie.Need-returns
 returns c =
     let opening = c.before.before in
     let found = opening.before.before.before in
-    opens_there _ _ _ _ _ _ _ found.before.before.range.ensures _ found.found.given.1 opening.open-window.ensures
+    opens_there _ _ _ _ _ _ found.before.before.range.ensures _ found.found.given.1 opening.open-window.ensures
 
 returns-2 : tie.Need-returns-2
 returns-2 c =
     let found = c.before.before in
-    refuses_there _ _ _ _ _ _ _ found.before.before.range.ensures _ _ found.found2.given.1 (c.refuse.ensures _)
+    refuses_there _ _ _ _ _ _ found.before.before.range.ensures _ _ found.found2.given.1 (c.refuse.ensures _)
 
 pub open_farm_spec : {M : Type 1} → statement M
 open_farm_spec =

@@ -21,15 +21,15 @@ use Rattle.entry_open.proofs.Lowest.{found_inside}
 use Rattle.entry_open.proofs.open_window.Statement.{statement}
 use Rattle.entry_open.proofs.open_window.Tie as tie
 
-opened : (w : World) (slot len i a : ℕ) (v : Window) (owner : ℕ) (code code' : List ℕ) (c : Cpu) (se : Session) (x : World)
+opened : (w : World) (slot len i a : ℕ) (v : Window) (code code' : List ℕ) (c : Cpu) (se : Session) (x : World)
     → x ≡ cleared i se a len w
-    → se ≡ fresh slot a len v owner c
+    → se ≡ fresh slot a len v c
     → c ≡ start_of code len
     → code ≡ code'
     → i ≡ record_for w
     → gap_for w len ≡ At a
-    → done i x ≡ opens slot len v owner (start_of code' len) (record_for w) (place_in (gap_for w len)) w
-opened w slot len i a v owner code code' c se x ex es ec eo ei eg = rw (ex, es, ec, eo, ei, eg)
+    → done i x ≡ opens slot len v (start_of code' len) (record_for w) (place_in (gap_for w len)) w
+opened w slot len i a v code code' c se x ex es ec eo ei eg = rw (ex, es, ec, eo, ei, eg)
 
 judged : (l i r : Bool) (code code' : List ℕ) (len s : ℕ) (v : Window) → r ≡ (l && i) → l ≡ len_ok code len → i ≡ inside_shared s v → code ≡ code'
     → r ≡ (len_ok code' len && inside_shared s v)
@@ -129,7 +129,7 @@ returns-4 c =
     let left = gapped.before in
     let gap = sym gapped.gap-for.ensures ∙ told.gap.given.1 in
     accepts _ _ _ (past_13 (sized left) _ _ (holds _ _ _ _ _ (le-leb _ 15 (left_at left)) (holds _ _ _ _ _ (ap found gap) none_left)))
-    (opened _ _ _ _ _ _ _ _ _ _ _ _ clearing.clear.ensures made.fresh.ensures made.before.start-cpu.ensures (coded_at (sized-at (sized left).before))
+    (opened _ _ _ _ _ _ _ _ _ _ _ clearing.clear.ensures made.fresh.ensures made.before.start-cpu.ensures (coded_at (sized-at (sized left).before))
     left.before.first-unused.ensures gap)
 
 returns-5 : tie.Need-returns-5

@@ -17,7 +17,7 @@ use Rattle.sound.proofs.Facts.{Opened}
 use Rattle.entry.specs.declared.Answer.{Answer}
 use Rattle.entry.specs.declared.Answer.TheVariants.{Done}
 use Rattle.entry.specs.Answer.{done}
-use Rattle.entry.specs.Entries.{open_for, done_of, ran_of, put, turn_of}
+use Rattle.entry.specs.Entries.{open_at, done_of, ran_of, put, turn_of}
 use Rattle.entry.proofs.Refusing.{none_left, passed_first, fails, holds, refuses, accepts}
 use Rattle.entry.proofs.Starts.{Going, Guarded, session_guarded}
 use Rattle.entry_turn.proofs.turn.Statement.{statement}
@@ -47,17 +47,16 @@ module _ (store : List ℕ) (w : World) (i k : ℕ) where
 -- ---- where the guard answered, of the session that was read; and where it passed
 
 abbrev start : tie.After-guard → tie.Start
-start c = c.before.before.before.before.before.before
+start c = c.before.before.before.before.before
 
 abbrev world : tie.After-guard → World
 world c = world_of (start c).args.b (start c).args.memory.now
 
 abbrev GoingAt : tie.After-guard → Type 0
-GoingAt c = Going (start c).args.store.now (world c) (start c).args.desk (start c).args.i c.before.before.before.session-at.result
+GoingAt c = Going (start c).args.store.now (world c) (start c).args.i c.before.before.session-at.result
 
-guarded_at : (c : tie.After-guard) → Guarded (start c).args.store.now (world c) (open_for (world c) (start c).args.desk (start c).args.i) c.guard.result (GoingAt c)
-guarded_at c =
-    session_guarded _ _ _ _ _ _ (start c).well-formed.0.1.1.1.1.1.0.1.0.1 _ c.before.before.before.session-at.ensures _ c.before.is-owned.ensures c.guard.ensures
+guarded_at : (c : tie.After-guard) → Guarded (start c).args.store.now (world c) (open_at (world c) (start c).args.i) c.guard.result (GoingAt c)
+guarded_at c = session_guarded _ _ _ _ _ (start c).well-formed.0.1.1.1.1.1.0.1.0.1 _ c.before.before.session-at.ensures c.guard.ensures
 
 going_at : (c : tie.After-enum-told) → GoingAt c.before.before
 going_at c = (guarded_at c.before.before).goes c.enum_told.given.1
@@ -71,7 +70,7 @@ abbrev guard-at : tie.After-code-of → tie.After-guard
 guard-at c = (few-at c).before.before.before
 
 coded_at : (c : tie.After-code-of) → let g = guard-at c in
-    c.code_of_lem.result.now ≡ code_of (start g).args.store.now (slot_of (world g).bench.slots g.before.before.before.session-at.result)
+    c.code_of_lem.result.now ≡ code_of (start g).args.store.now (slot_of (world g).bench.slots g.before.before.session-at.result)
 coded_at c = c.code_of_lem.ensures ∙ ap (code_of _) c.before.slot_at.ensures
 
 -- ---- what the code asks
@@ -93,7 +92,7 @@ run-requires c κs =
     let coded = c.before.before.before in
     let g = going_at (few-at coded).before in
     let f = g.session in
-    let se = (guard-at coded).before.before.before.session-at.result in
+    let se = (guard-at coded).before.before.session-at.result in
     let l : se.base + se.len - se.base ≡ se.len = omega arith in
     rw (coded_at coded, l) (f.checked, (f.cpu_ok_lem, (f.most, omega (arith, f.seen, g.few), omega (arith, f.seen, f.above), omega arith, f.inside)))
 
@@ -112,14 +111,13 @@ returns-3 c =
     let coded = running.before.before.before.before in
     let few = few-at coded in
     accepts _ _ _ (passed_first _ _ _ (going_at few.before).passes (holds _ _ _ _ _ (le-leb _ 65535 few.if1.left) none_left))
-    (ran _ (world (guard-at coded)) _ _ _ _ _ running.run.result _ _ _ (guard-at coded).before.before.before.session-at.ensures (coded_at coded)
+    (ran _ (world (guard-at coded)) _ _ _ _ _ running.run.result _ _ _ (guard-at coded).before.before.session-at.ensures (coded_at coded)
     (going_at few.before).session running.run.ensures stored.before.at.ensures stored.with-session.ensures c.steps-done.ensures)
 
 pub turn_spec : {M : Type 1} → statement M
 turn_spec =
     tie.close
     (tie.spec
-    (search rules)
     (search rules)
     (search rules)
     (search rules)
@@ -132,7 +130,7 @@ turn_spec =
     returns-2
     (search rules)
     (search rules)
-    (λ c. let g = going_at (few-at c.before.before).before in omega (arith, g.session.inside, g.short))
+    (λ c. omega (arith, (going_at (few-at c.before.before).before).session.inside))
     run-requires
     (search rules)
     (λ c κs. (going_at (few-at c.before.before.before.before.before.before.before.before).before).low)

@@ -10,7 +10,7 @@ abbrev invariant-loop : tie.invariant-loop
 invariant-loop memory₀ book₀ store bench₀ k₀ memory book bench k = (length memory ≡ length memory₀) × (length book ≡ length book₀)
 
 abbrev decreases-loop : tie.decreases-loop
-decreases-loop memory₀ book₀ store bench₀ k₀ memory book bench k = 36 - k
+decreases-loop memory₀ book₀ store bench₀ k₀ memory book bench k = 26 - k
 
 loop-holds : tie.Need-loop-init invariant-loop decreases-loop
 loop-holds c = search rules

@@ -10,4 +10,4 @@ returns-2 c =
 
 pub is_clear_spec : {M : Type 1} → statement M
 is_clear_spec =
-    tie.close (tie.spec (λ c. rw c.if1.true) (search rules) (search rules) (search rules) returns-2)
+    tie.close (tie.spec (λ c. search rules) (search rules) (search rules) (search rules) returns-2)

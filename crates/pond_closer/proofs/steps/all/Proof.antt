@@ -6,10 +6,10 @@ use Rattle.pond_closer.proofs.steps.all.Statement.{statement}
 use Rattle.pond_closer.proofs.steps.all.Tie as tie
 
 abbrev invariant-loop : tie.invariant-loop
-invariant-loop memory₀ store desk i steps bench₀ left₀ memory bench left = length memory ≡ length memory₀
+invariant-loop memory₀ store i steps bench₀ left₀ memory bench left = length memory ≡ length memory₀
 
 abbrev decreases-loop : tie.decreases-loop
-decreases-loop memory₀ store desk i steps bench₀ left₀ memory bench left = left
+decreases-loop memory₀ store i steps bench₀ left₀ memory bench left = left
 
 loop-holds : tie.Need-loop-init invariant-loop decreases-loop
 loop-holds c = search rules

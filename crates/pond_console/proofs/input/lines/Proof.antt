@@ -6,11 +6,11 @@ use Rattle.pond_console.proofs.input.lines.Statement.{statement}
 use Rattle.pond_console.proofs.input.lines.Tie as tie
 
 abbrev invariant-loop : tie.invariant-loop
-invariant-loop memory₀ store₀ book₀ typed bench₀ keep₀ desk₀ status₀ turns₀ memory store book bench keep desk status turns =
+invariant-loop memory₀ store₀ book₀ typed bench₀ keep₀ status₀ turns₀ memory store book bench keep status turns =
     (length memory ≡ length memory₀) × ((length store ≡ length store₀) × (length book ≡ length book₀))
 
 abbrev decreases-loop : tie.decreases-loop
-decreases-loop memory₀ store₀ book₀ typed bench₀ keep₀ desk₀ status₀ turns₀ memory store book bench keep desk status turns =
+decreases-loop memory₀ store₀ book₀ typed bench₀ keep₀ status₀ turns₀ memory store book bench keep status turns =
     turns
 
 loop-holds : tie.Need-loop-init invariant-loop decreases-loop

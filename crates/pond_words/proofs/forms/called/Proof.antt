@@ -5,10 +5,10 @@ use Rattle.pond_words.proofs.forms.called.Statement.{statement}
 use Rattle.pond_words.proofs.forms.called.Tie as tie
 
 abbrev invariant-loop : tie.invariant-loop
-invariant-loop forms verb k₀ k = k ≤ 29
+invariant-loop forms verb k₀ k = k ≤ 28
 
 abbrev decreases-loop : tie.decreases-loop
-decreases-loop forms verb k₀ k = 29 - k
+decreases-loop forms verb k₀ k = 28 - k
 
 pub called_spec : {M : Type 1} → statement M
 called_spec =

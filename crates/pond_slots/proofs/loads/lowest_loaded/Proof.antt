@@ -1,8 +1,8 @@
--- `holds::lowest_loaded` is safe and ends. The measure is what is left to go through. Assumes nothing.
+-- `loads::lowest_loaded` is safe and ends. The measure is what is left to go through. Assumes nothing.
 use borrow.Author.Rules.{rules}
 use Prim.Native.Nat.{◌-◌}
-use Rattle.pond_windows.proofs.holds.lowest_loaded.Statement.{statement}
-use Rattle.pond_windows.proofs.holds.lowest_loaded.Tie as tie
+use Rattle.pond_slots.proofs.loads.lowest_loaded.Statement.{statement}
+use Rattle.pond_slots.proofs.loads.lowest_loaded.Tie as tie
 
 abbrev invariant-loop : tie.invariant-loop
 invariant-loop slots i₀ i = Unit {0}

@@ -1,0 +1,54 @@
+-- `maps::begins` is safe and ends: it looks at each record once. Assumes nothing.
+use borrow.Author.Rules.{rules}
+use Prim.Native.Nat.{◌≤◌, ◌-◌}
+use Rattle.pond_look.proofs.maps.begins.Statement.{statement}
+use Rattle.pond_look.proofs.maps.begins.Tie as tie
+
+abbrev invariant-loop : tie.invariant-loop
+invariant-loop at sessions i₀ i = i ≤ 16
+
+abbrev decreases-loop : tie.decreases-loop
+decreases-loop at sessions i₀ i = 16 - i
+
+loop-holds : tie.Need-loop-init invariant-loop decreases-loop
+loop-holds c = search rules
+
+mul-se : tie.Need-overflow-mul-se invariant-loop decreases-loop
+mul-se c = search rules
+
+array-copy-out-se : tie.Need-array-copy-out-se invariant-loop decreases-loop
+array-copy-out-se c = search rules
+
+both-requires : tie.Need-both-requires invariant-loop decreases-loop
+both-requires c κs = search rules
+
+returns : tie.Need-returns invariant-loop decreases-loop
+returns c = search rules
+
+add-i : tie.Need-overflow-add-i invariant-loop decreases-loop
+add-i c = search rules
+
+loop-less : tie.Need-loop-smaller invariant-loop decreases-loop
+loop-less c = search rules
+
+loop-again : tie.Need-loop-preserved invariant-loop decreases-loop
+loop-again c = search rules
+
+returns-2 : tie.Need-returns-2 invariant-loop decreases-loop
+returns-2 c = search rules
+
+pub begins_spec : {M : Type 1} → statement M
+begins_spec =
+    tie.close
+    (tie.spec
+    invariant-loop
+    decreases-loop
+    loop-holds
+    mul-se
+    array-copy-out-se
+    both-requires
+    returns
+    add-i
+    loop-less
+    loop-again
+    returns-2)
