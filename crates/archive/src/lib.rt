@@ -1,6 +1,7 @@
 // The archive, above the runner: a bench's shared words as records of four words, farm, pond, day and concentration. It is judged, a farm's records are
 // found in it, and a session is opened for a farm that sees these and no others.
 // Above: the program. Below: entry_open for the opening, sound_test for 11, and archive_records for what an archive is.
+#![tactic(auto)]
 ghost use Rattle.std.specs.Prelude.{◌≡◌};
 ghost use Rattle.basis.specs.Checks.{ruling};
 ghost use Rattle.segment.specs.Judge.{ruling_of};
@@ -17,7 +18,7 @@ use sound::{Bench, Window};
 use sound_test::is_sound;
 
 // Where a farm's records lie, or a refusal's number and place.
-#[derive(Drop)]
+#[derive(Clone, Copy)]
 pub enum Found {
     At(Window),
     Refused(u8, u16),

@@ -4,7 +4,7 @@ use cases_lines::numbers::{letter, numbers};
 use cases_lines::setup;
 use sound::Bench;
 
-#[derive(Drop)]
+#[derive(Clone, Copy)]
 pub struct World {
     pub bench: Bench,
     pub words: usize,

@@ -11,7 +11,7 @@ use instruction::Target;
 use plan::Link;
 
 // The record that links lead to; or a bad link: of how many, how many were left with it, the word where it stands, what it holds.
-#[derive(Drop)]
+#[derive(Clone, Copy)]
 pub enum Reached {
     Record(usize),
     Bad(u16, u16, u16, u16),

@@ -2,6 +2,7 @@
 // Above it: `pond_why`, which puts it into words. Below it: `instruction`, which takes the instruction apart, and `segment`.
 //
 // A step that faults changes no word and no register, so the check that failed fails again on the same numbers.
+#![tactic(auto)]
 mod flow;
 mod judged;
 mod meaning;

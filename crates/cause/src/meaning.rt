@@ -3,13 +3,13 @@
 use instruction::Instruction;
 
 // Whose record: the globals', or the one that so many static links lead to.
-#[derive(Drop)]
+#[derive(Clone, Copy)]
 pub enum Whose {
     Globals,
     Up(u16),
 }
 
-#[derive(Drop)]
+#[derive(Clone, Copy)]
 pub enum Does {
     // nothing is judged but the words taken and the room for those given
     Plain,

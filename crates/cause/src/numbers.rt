@@ -9,7 +9,7 @@ const HUGE: u16 = 65535;
 
 // `code` is 2W, the bytes of the segment, `floor` is 6+G, `count` the number of routines, `len` is L and `shared` the number of words in its window. `kept`
 // says whether every number is one that a session can have; where it is not, nothing here means anything.
-#[derive(Drop)]
+#[derive(Clone, Copy)]
 pub struct Numbers {
     pub kept: bool,
     pub code: u16,

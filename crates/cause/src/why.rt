@@ -4,7 +4,7 @@ ghost use Rattle.std.specs.Prelude.{◌≡◌};
 ghost use Rattle.cause.specs.Fault.{code_fault, stack_fault, flow_fault, fault_of};
 
 // The check that failed, by theme; or none.
-#[derive(Drop)]
+#[derive(Clone, Copy)]
 pub enum Why {
     Holds,
     Code(Code),
@@ -15,7 +15,7 @@ pub enum Why {
 }
 
 // Faults 1 and 2: the instruction itself.
-#[derive(Drop)]
+#[derive(Clone, Copy)]
 pub enum Code {
     // its first byte lies outside the code
     Begins,
@@ -28,7 +28,7 @@ pub enum Code {
 }
 
 // Faults 3, 5, 10 and 4: words of the stack, and the room for more.
-#[derive(Drop)]
+#[derive(Clone, Copy)]
 pub enum Stack {
     // words taken, words there
     Few(u8, usize),
@@ -45,7 +45,7 @@ pub enum Stack {
 }
 
 // Fault 6 of a word that the operands name.
-#[derive(Drop)]
+#[derive(Clone, Copy)]
 pub enum Place {
     // offset x of the record at m is a word
     Offset(u16, u16, usize),
@@ -62,7 +62,7 @@ pub enum Place {
 }
 
 // Fault 6 of an address from the stack.
-#[derive(Drop)]
+#[derive(Clone, Copy)]
 pub enum Address {
     // base and index: NIL, beyond every address, a word that is not there, a shared word that is not there
     Nil(u16),
@@ -76,7 +76,7 @@ pub enum Address {
 }
 
 // Faults 7, 8 and 9.
-#[derive(Drop)]
+#[derive(Clone, Copy)]
 pub enum Flow {
     // the jump's target; how far it lies below 0
     Target(usize),

@@ -1,5 +1,7 @@
 // Comparisons of words, signed and unsigned, which answer 1 or 0; and AND, OR and NOT of all 16 bits.
 // Below: basis, whose laws are cited. Above: the machine's instructions. No function asks anything of its words.
+#![tactic(auto)]
+
 ghost use Rattle.std.specs.Prelude.{◌≡◌};
 ghost use Rattle.basis.specs.Integer.{eq_of, ne_of, leq_of, geq_of, leu_of, geu_of, and_of, or_of, not_of};
 

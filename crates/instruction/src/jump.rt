@@ -5,7 +5,7 @@ ghost use Rattle.pmachine.specs.Step.{target};
 ghost use Rattle.instruction.specs.Targets.{byte_of};
 
 // A byte's number, in the segment or past it; or how far below byte 0.
-#[derive(Drop)]
+#[derive(Clone, Copy)]
 pub enum Target {
     Byte(usize),
     Before(usize),

@@ -1,5 +1,6 @@
 // What stands at a byte of the code: the first byte, whether it is carried, and its operands as far as they are there.
 // Above: a step that faults, listings, and what is told of a fault. Below: the table of first bytes in `opcodes`, and the reader, which fetches operands.
+#![tactic(auto)]
 mod jump;
 mod place;
 mod recorded;
@@ -25,7 +26,7 @@ const UB: u8 = 1;
 
 // An instruction as it stands in the code, carried or not. x, y and z are its operands in order, 0 where there is none. `next` is the byte
 // after it, and the first byte that is missing where the segment ends within it; none of its operands is told then.
-#[derive(Drop)]
+#[derive(Clone, Copy)]
 pub struct Instruction {
     pub first: u8,
     pub carried: bool,

@@ -1,6 +1,7 @@
 // The judgement of a step: the one fault, or what changes. It only reads.
 // Above: `machine`, which writes what is planned; below: `plan_stack`, `plan_places`, `plan_calls` and `plan_pool`, what each
 // meaning comes to, and `operand`, by which each arm fetches its own.
+#![tactic(auto)]
 ghost use Rattle.std.specs.Prelude.{◌≡◌, ◌+◌, ◌≤◌, length};
 ghost use Rattle.pmachine.specs.Opcode.{opcode};
 ghost use Rattle.pmachine.specs.Decoding.{row_decoded};
@@ -17,7 +18,7 @@ use plan_pool::{block, case_at, choose, words_at};
 use plan_stack::{check_range, divide, duplicate, one_word, swap, two_words};
 
 // The first byte of an instruction, or no byte of the code.
-#[derive(Drop)]
+#[derive(Clone, Copy)]
 enum Byte {
     Decoded(u8),
     Outside,

@@ -10,7 +10,7 @@ const XJP: u8 = 214;
 const LISTED: u16 = 32;
 
 // The table at word b of the pool. `arms` is how many indexes are in its range, and `read` how many of their words can be read, from the lowest on.
-#[derive(Drop)]
+#[derive(Clone, Copy)]
 struct Table {
     pool: u16,
     b: u16,

@@ -3,7 +3,7 @@
 use instruction::Target;
 
 // What is asked of an entry of the table: its mnemonic or its phrase; the operands in order, and the byte after the instruction.
-#[derive(Drop)]
+#[derive(Clone, Copy)]
 pub struct Operands {
     pub named: bool,
     pub x: u16,

@@ -1,5 +1,6 @@
 // What a step is judged with: registers and what becomes of them, what a segment says, and what changes; and the two functions that every part asks.
 // Above: `plan_stack`, `plan_places`, `plan_calls` and `plan_pool`, what each meaning comes to, and all that names registers; below: the definition of a step.
+#![tactic(auto)]
 ghost use Rattle.std.specs.Prelude.{◌≡◌, List, ℕ, ◌-◌, ◌≤◌, ◌<◌, min, length, get_or};
 ghost use Rattle.pmachine.specs.Step.{moved, lowered};
 ghost use Rattle.plan.specs.Answer.{regs_of, outcome_of};
@@ -7,7 +8,7 @@ ghost use Rattle.plan.specs.Mirror.{pushed};
 
 // Stack pointer, record pointer, counter, current routine, and the lowest stack pointer reached since opening: fields of one width, so that a loop
 // keeps them in registers. This is the part of a session record that a step can change besides the kind.
-#[derive(Drop)]
+#[derive(Clone, Copy)]
 pub struct Regs {
     pub sp: usize,
     pub m: usize,
@@ -79,7 +80,7 @@ fn lower(a: usize, b: usize) -> usize
 
 // What a segment says, read once a turn. Sex 0 is least byte first, 1 most byte first; `reals` is where the real pool starts, the end of what can be
 // read of the pool; floor is 6+G.
-#[derive(Drop)]
+#[derive(Clone, Copy)]
 pub struct Facts {
     pub sex: usize,
     pub dict: usize,
@@ -91,7 +92,7 @@ pub struct Facts {
 
 // What changes, and nothing more: a wider answer would pass through memory at every step. Words stand before the wider numbers, so that
 // each place of the answer has one width in all variants.
-#[derive(Drop)]
+#[derive(Clone, Copy)]
 pub enum Planned {
     // stack pointer, counter
     Move(usize, usize),
@@ -117,35 +118,35 @@ pub enum Planned {
 }
 
 // A record reached by static links, or a bad link.
-#[derive(Drop)]
+#[derive(Clone, Copy)]
 pub enum Link {
     Record(usize),
     Broken,
 }
 
 // A word that is read, or a bad address.
-#[derive(Drop)]
+#[derive(Clone, Copy)]
 pub enum Read {
     Value(u16),
     Missing,
 }
 
 // The record pointer and counter of a routine that is entered, or the fault.
-#[derive(Drop)]
+#[derive(Clone, Copy)]
 pub enum Entry {
     To(usize, usize),
     Not(u8),
 }
 
 // The first word of those that LDC pushes, by its number in the segment; or the fault.
-#[derive(Drop)]
+#[derive(Clone, Copy)]
 pub enum Found {
     At(u16),
     Fault(u8),
 }
 
 // What a case table has for an index: a distance to jump by, nothing, so that the session goes on, or a word that cannot be read.
-#[derive(Drop)]
+#[derive(Clone, Copy)]
 pub enum Case {
     By(u16),
     On,
@@ -153,7 +154,7 @@ pub enum Case {
 }
 
 // The instructions on one word, on two, and the divisions, by their names in appendix B.
-#[derive(Drop)]
+#[derive(Clone, Copy)]
 pub enum Unary {
     Abi,
     Ngi,
@@ -162,7 +163,7 @@ pub enum Unary {
     Deci,
 }
 
-#[derive(Drop)]
+#[derive(Clone, Copy)]
 pub enum Binary {
     Mpi,
     Lor,
@@ -177,7 +178,7 @@ pub enum Binary {
     Geusw,
 }
 
-#[derive(Drop)]
+#[derive(Clone, Copy)]
 pub enum Division {
     Dvi,
     Modi,

@@ -3,6 +3,7 @@
 // Above it: the console, which reads the words of a command. Below it: the bench, what can be seen of it, and how the console speaks.
 //
 // A bench goes in by value and comes back. The memory is the bench's own words and no others; the store has 65,536 bytes for each slot.
+#![tactic(auto)]
 mod sessions;
 pub mod turns;
 

@@ -15,7 +15,7 @@ const TURN: u64 = 65535;
 const MILESTONE: u64 = 100000000;
 
 // The bench after some steps, and how many they were.
-#[derive(Drop)]
+#[derive(Clone, Copy)]
 pub struct Went {
     pub bench: Bench,
     pub steps: u64,

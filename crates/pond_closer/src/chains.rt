@@ -11,7 +11,7 @@ use sound::{Bench, Session};
 const MOST: u8 = 30;
 
 // A record and its routine, while there is one.
-#[derive(Drop)]
+#[derive(Clone, Copy)]
 struct Record {
     there: bool,
     m: usize,

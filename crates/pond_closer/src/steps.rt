@@ -11,7 +11,7 @@ use pond_why::faults;
 use sound::{Bench, Session};
 
 // The bench after a step, and whether one was done.
-#[derive(Drop)]
+#[derive(Clone, Copy)]
 struct Stepped {
     bench: Bench,
     done: bool,

@@ -11,7 +11,7 @@ use pond_words::forms;
 use sound::Bench;
 
 // The bench after a line, what a script goes on after from there on, the line's status, and whether another line may follow.
-#[derive(Drop)]
+#[derive(Clone, Copy)]
 struct After {
     bench: Bench,
     keep: u8,

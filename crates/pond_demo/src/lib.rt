@@ -1,6 +1,7 @@
 // `demo`: two farms on one bench with an archive of records, a report that takes one record too many, and the accident of last spring tried again. It needs no
 // file, and what it prints is what the same commands print on the files of examples/.
 // Above it: the console. Below it: the other commands, as they are: a line is shown, and then done.
+#![tactic(auto)]
 mod bytes;
 mod lines;
 

@@ -8,7 +8,7 @@ use crate::reads::failure;
 use libc::PATH_MAX;
 
 // What is done about a name.
-#[derive(Drop)]
+#[derive(Clone, Copy)]
 pub enum Place {
     New,
     Replaced,

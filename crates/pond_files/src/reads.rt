@@ -5,14 +5,14 @@ ghost use Rattle.std.specs.Prelude.{◌+◌, ◌≤◌, length};
 use crate::errors::cannot;
 
 // How many bytes were read, and the error's number, or 0 where there was none.
-#[derive(Drop)]
+#[derive(Clone, Copy)]
 pub struct Got {
     pub count: usize,
     pub error: i32,
 }
 
 // How many bytes a file has, where it was read; else it has been said why not.
-#[derive(Drop)]
+#[derive(Clone, Copy)]
 pub struct Whole {
     pub ok: bool,
     pub count: usize,

@@ -17,7 +17,7 @@ const NO_WORDS: usize = 10000;
 
 // The command of a line and how many words stand behind its verb; what a script goes on after behind it (0 nothing, 1 a fault, 2 any failure); and whether
 // another line may follow.
-#[derive(Drop)]
+#[derive(Clone, Copy)]
 pub struct Heard {
     pub form: u8,
     pub n: u8,

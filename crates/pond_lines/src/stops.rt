@@ -3,7 +3,7 @@
 use pond_say::Outcome;
 
 // The line's status, and whether another line may follow.
-#[derive(Drop)]
+#[derive(Clone, Copy)]
 pub struct Went {
     pub status: u8,
     pub more: bool,

@@ -6,7 +6,7 @@ use pond_say::Outcome;
 use sound::Bench;
 
 // The words that are asked for: all, those from one on, or so many from one on.
-#[derive(Drop)]
+#[derive(Clone, Copy)]
 pub enum Wanted {
     All,
     From(u64),
@@ -14,7 +14,7 @@ pub enum Wanted {
 }
 
 // The words from one up to another that is not shown, where they are there.
-#[derive(Drop)]
+#[derive(Clone, Copy)]
 struct Stretch {
     there: bool,
     from: usize,

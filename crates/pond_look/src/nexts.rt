@@ -3,7 +3,7 @@
 use pond_say::Outcome;
 use sound::Bench;
 
-#[derive(Drop)]
+#[derive(Clone, Copy)]
 pub struct Next {
     pub bench: Bench,
     pub outcome: Outcome,

@@ -13,7 +13,7 @@ const BEHIND: usize = 6;
 const ALL: usize = 70000;
 
 // What is asked for: a routine, or a byte.
-#[derive(Drop)]
+#[derive(Clone, Copy)]
 pub enum Part {
     Routine(u64),
     Near(u64),

@@ -1,6 +1,7 @@
 // What is told of recorded faults that no command of `pond` makes, and that a caller of the library can have in a bench: fault 1 at the place that it
 // had before request 8, fault 2 of an instruction that is carried since request 2, and records that the session's own numbers do not give. `stdout` holds the words.
 // Below it: `pond_why`, as for `show`.
+#![tactic(auto)]
 use machine::{Cpu, Kind};
 use plan::Regs;
 use pond_rows::View;

@@ -4,7 +4,7 @@
 use crate::kept::{put, row};
 use crate::names::view_row;
 
-#[derive(Drop)]
+#[derive(Clone, Copy)]
 pub enum View {
     All,
     Window,

@@ -19,7 +19,7 @@ const STEPS: u64 = 1000000000;
 const MOST: usize = 32768;
 
 // What is said of a run: nothing, its words, or its words and its steps.
-#[derive(Drop)]
+#[derive(Clone, Copy)]
 pub enum Size {
     Usual,
     Words(u64),

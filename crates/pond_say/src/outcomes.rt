@@ -3,7 +3,7 @@
 
 // A fault is a report's; so is a run that did all its steps and is not finished. Typing is a line that cannot be followed. File is a
 // file that cannot be read or written. Outside is Ctrl-C.
-#[derive(Drop)]
+#[derive(Clone, Copy)]
 pub enum Outcome {
     Done,
     Fault,

@@ -3,7 +3,7 @@
 use numbers::Number;
 
 // A field's first byte and the byte after its last, where the next one is looked for, and whether it is there. It is empty where two commas stand side by side.
-#[derive(Drop)]
+#[derive(Clone, Copy)]
 pub struct Field {
     pub there: bool,
     pub from: usize,
@@ -13,7 +13,7 @@ pub struct Field {
 
 // How many fields a line has, how many are not empty, how many begin as a number does, how many are numbers of a word; the first four of these; and where
 // the first field stands that is none.
-#[derive(Drop)]
+#[derive(Clone, Copy)]
 pub struct Fields {
     pub count: usize,
     pub ink: usize,
@@ -28,14 +28,14 @@ pub struct Fields {
 }
 
 // What a search stops at.
-#[derive(Drop)]
+#[derive(Clone, Copy)]
 enum Stop {
     Ink,
     Gap,
 }
 
 // A number that a word can hold, or that there is none.
-#[derive(Drop)]
+#[derive(Clone, Copy)]
 struct Value {
     there: bool,
     value: u16,

@@ -17,7 +17,7 @@ const WRONG: u8 = 3;
 
 // Whether every line so far could be taken (else it has been said why not), how many lines and records there were, the last record's farm, and whether a heading
 // can still come.
-#[derive(Drop)]
+#[derive(Clone, Copy)]
 pub struct Sheet {
     pub ok: bool,
     pub line: u64,

@@ -4,7 +4,7 @@ use pond_say::Outcome;
 use text::word;
 
 // How many words stand on the tape, and whether they can be followed.
-#[derive(Drop)]
+#[derive(Clone, Copy)]
 pub struct Cut {
     pub words: usize,
     pub unclosed: bool,
@@ -12,7 +12,7 @@ pub struct Cut {
 }
 
 // A word's first byte and the byte after its last, where to look for the next word, and whether it is there.
-#[derive(Drop)]
+#[derive(Clone, Copy)]
 struct Token {
     there: bool,
     unclosed: bool,
@@ -22,7 +22,7 @@ struct Token {
 }
 
 // What a search stops at.
-#[derive(Drop)]
+#[derive(Clone, Copy)]
 enum Stop {
     Ink,
     Blank,

@@ -3,7 +3,7 @@
 use libc::STDIN_FILENO;
 
 // How many bytes of a line were kept, whether it had more, whether another line may follow, and whether the input could be read.
-#[derive(Drop)]
+#[derive(Clone, Copy)]
 pub struct Line {
     pub count: usize,
     pub over: bool,
@@ -13,7 +13,7 @@ pub struct Line {
 
 // A byte of the input. Where none is there, the byte is a line's end if the input has ended, and 0
 // if it cannot be read.
-#[derive(Drop)]
+#[derive(Clone, Copy)]
 struct Taken {
     there: bool,
     byte: u8,

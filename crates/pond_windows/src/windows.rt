@@ -5,7 +5,7 @@ use pond_rows::View;
 use sound::{Bench, Session, Window};
 
 // For whom a session was opened, and its window: so many words, and the first of them among the shared words.
-#[derive(Drop)]
+#[derive(Clone, Copy)]
 pub struct Seen {
     pub view: View,
     pub first: usize,

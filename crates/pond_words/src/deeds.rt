@@ -11,7 +11,7 @@ use text::same;
 const UNNAMED: usize = 8;
 
 // What is to be done, with the numbers of slots and sessions. Words that are bytes stay on the tape: a file is the last word, and a new name the word that is told.
-#[derive(Drop)]
+#[derive(Clone, Copy)]
 pub enum Deed {
     Map,
     Slots,
@@ -37,7 +37,7 @@ pub enum Deed {
 }
 
 // An opening: slot, words and where its name stands, if they could be read.
-#[derive(Drop)]
+#[derive(Clone, Copy)]
 struct Order {
     ok: bool,
     slot: u64,

@@ -13,14 +13,14 @@ const SLOTS: usize = 16;
 const LONGEST: usize = 24;
 
 // A number, where the word was one; else it has been said why not.
-#[derive(Drop)]
+#[derive(Clone, Copy)]
 pub struct One {
     pub ok: bool,
     pub value: u64,
 }
 
 // How many numbers are given, two at most, where all of them were numbers.
-#[derive(Drop)]
+#[derive(Clone, Copy)]
 pub struct Given {
     pub ok: bool,
     pub count: u8,

@@ -1,12 +1,13 @@
 // The reader: a bounded view of one segment with a reading place, so that no caller adds offsets by hand.
 // Below: the operands. Above: `instruction`, and so listings, the place of a fault and what is told of it.
 // `next` takes the struct apart and calls a function on the slice and numbers; `read_at` is for callers with a slice and numbers.
+#![tactic(auto)]
 ghost use Rattle.std.specs.Prelude.{◌≡◌};
 ghost use Rattle.operand.specs.Operand.{fetched, fetched_of, form_at};
 
 use operand::Operand;
 
-#[derive(Drop)]
+#[derive(Clone, Copy)]
 pub struct Reader<'a> {
     pub src: &'a [u8],
     pub at: usize,

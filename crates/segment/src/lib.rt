@@ -1,5 +1,7 @@
 // Code segments: the numbers of the header and of the routines, and what an answer to a segment is. All is total, for any bytes.
 // Below: bytes and words. Above: the verdict of checks 1 to 8, turning a segment's byte sex, the machine, the bench, listings and causes.
+#![tactic(auto)]
+
 ghost use Rattle.std.specs.Prelude.{◌≡◌, ◌+◌, cond, eqb};
 ghost use Rattle.segment.specs.Head.{least, datasize, head_of, routine_of, fresh_of};
 
@@ -7,7 +9,7 @@ use operand::{byte_at, word_at};
 
 // The numbers of a segment's header: how many words, whether words are least byte first, the
 // dictionary, relocation and pool pointers, where the real pool starts, the real size, and how many routines.
-#[derive(Drop)]
+#[derive(Clone, Copy)]
 pub struct Segment {
     pub words: usize,
     pub least: bool,
@@ -59,7 +61,7 @@ impl Segment {
 }
 
 // The numbers of a routine; start is the byte of its first instruction.
-#[derive(Drop)]
+#[derive(Clone, Copy)]
 pub struct Routine {
     pub entry: u16,
     pub datasize: u16,
@@ -68,7 +70,7 @@ pub struct Routine {
 }
 
 // The answer to a segment: accepted, or refused with the paper's number and the place.
-#[derive(Drop)]
+#[derive(Clone, Copy)]
 pub enum Verdict {
     Accepted,
     Refused { number: u8, place: u16 },

@@ -1,5 +1,6 @@
 // What a bench holds, by value: slots, session records, and the limits of its memory. specs/Sound says when it is sound.
 // Above: sound_regions and sound_test, which test that, and the entries of the bench. Below: session, for registers.
+#![tactic(auto)]
 ghost use Rattle.std.specs.Prelude.{◌≡◌, get_or};
 ghost use Rattle.sound.specs.Bench.{no_slot, no_session, slot_at, fresh, at_cpu};
 ghost use Rattle.sound.specs.Sound.{limits_ok};
@@ -9,7 +10,7 @@ use machine::Cpu;
 use session::no_cpu;
 
 // A part of the store: len bytes from start on.
-#[derive(Drop)]
+#[derive(Clone, Copy)]
 pub struct Slot {
     pub loaded: bool,
     pub start: usize,
@@ -17,14 +18,14 @@ pub struct Slot {
 }
 
 // The shared words that a session sees, at 32,768 onward: len of them, from word first on.
-#[derive(Drop)]
+#[derive(Clone, Copy)]
 pub struct Window {
     pub first: usize,
     pub len: usize,
 }
 
 // The slot that the session runs, its region (len words from base on), its window of the shared words, and its registers and kind.
-#[derive(Drop)]
+#[derive(Clone, Copy)]
 pub struct Session {
     pub used: bool,
     pub slot: usize,
@@ -60,7 +61,7 @@ impl Session {
 }
 
 // For a memory of n words, the first s of them shared.
-#[derive(Drop)]
+#[derive(Clone, Copy)]
 pub struct Bench {
     pub n: usize,
     pub s: usize,

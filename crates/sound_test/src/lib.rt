@@ -1,6 +1,7 @@
 // The test whether a bench is sound for the memory and the store that the caller lends.
 // Above: entry, whose guard is how every entry begins. Below: sound (what a bench holds), sound_regions, session (registers in their ranges) and
 // checks (1 to 8).
+#![tactic(auto)]
 ghost use Rattle.std.specs.Prelude.{◌≡◌};
 ghost use Rattle.sound.specs.Sound.{sound_b};
 

@@ -1,5 +1,6 @@
 // One step of a ready session, on a memory that holds the shared words and the session's region: judged with reads alone, then committed.
 // Above: `machine`, whose turn is many of them; below: `judge`, which only reads, `commit`, which only writes, and the place of a fault in `instruction`.
+#![tactic(auto)]
 ghost use Rattle.std.specs.Prelude.{◌≡◌, take};
 ghost use Rattle.basis.specs.Part.{part};
 ghost use Rattle.pmachine.specs.Step.{judge};
@@ -9,7 +10,7 @@ ghost use Rattle.steps.specs.Memory.{Steady, Stood};
 use plan::{Facts, Planned, Regs};
 
 // The registers after a step; a fault and its place; or the end.
-#[derive(Drop)]
+#[derive(Clone, Copy)]
 pub enum Stepped {
     Went(Regs),
     Stuck(u8, usize),

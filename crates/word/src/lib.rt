@@ -1,5 +1,7 @@
 // Arithmetic of 16-bit integers: they wrap, in two's complement. A word below 32,768 is its own integer, and one from there on is 65,536 less.
 // Below: basis, whose laws are cited, and std's wrapping add and subtract. Above: the machine's instructions. No function asks anything of its words.
+#![tactic(auto)]
+
 ghost use Rattle.std.specs.Prelude.{◌≡◌, ◌*◌, ◌%◌};
 ghost use Rattle.basis.specs.Integer.{add_of, sub_of, mul_of, quot_of, rem_of, neg_of, mag_of, inc_of, dec_of};
 

@@ -1,0 +1,34 @@
+-- `cause::flow::callable` meets its contract. Assumes nothing.
+use native.Mathlib.Omega.{arith}
+use mathlib.Core.Path.{◌≡◌, sym, ap, ◌∙◌}
+use mathlib.Core.Bool.{false, true, ◌&&◌}
+use borrow.Author.Tests.{not-true, not-false}
+use lib.Dec.{leb}
+use Rattle.segment.specs.Head.{entry}
+use Rattle.segment.specs.declared.Routine.{Routine}
+use Rattle.segment.proofs.Laws.{linked_some, linked_none}
+use Rattle.cause.proofs.flow.callable.Goals as goal
+
+pub returns-then-is_outside : goal.returns-then-is_outside
+returns-then-is_outside c =
+    let a = c.args in
+    let out : (leb 1 a.k && leb a.k a.n.count) ≡ false = not-true _ (sym c.is_outside.ensures ∙ c.if-is_outside.true) in
+    rw out
+
+pub returns-then-r-eq0 : goal.returns-then-r-eq0
+returns-then-r-eq0 c =
+    let read = c in
+    let asked = read in
+    let a = asked.args in
+    let is : read.routine_of-r.result.entry ≡ entry a.seg.now a.k = ap (λ (r : Routine). r.entry) read.routine_of-r.ensures in
+    let there : (leb 1 a.k && leb a.k a.n.count) ≡ true = not-false _ (sym asked.is_outside.ensures ∙ asked.if-is_outside.false) in
+    rw (there, linked_none a.seg.now a.k (sym is ∙ c.if-r-eq0.true))
+
+pub returns : goal.returns
+returns c =
+    let read = c in
+    let asked = read in
+    let a = asked.args in
+    let is : read.routine_of-r.result.entry ≡ entry a.seg.now a.k = ap (λ (r : Routine). r.entry) read.routine_of-r.ensures in
+    let there : (leb 1 a.k && leb a.k a.n.count) ≡ true = not-false _ (sym asked.is_outside.ensures ∙ asked.if-is_outside.false) in
+    rw (there, linked_some a.seg.now a.k (omega (arith, is, c.if-r-eq0.false)))

@@ -1,0 +1,10 @@
+-- `compare::differ` meets its contract. Assumes nothing.
+use Rattle.std.proofs.Common.{eq-eqb, ne_eqb}
+use Rattle.basis.specs.Integer.{ne_of, truth}
+use Rattle.compare.proofs.differ.Goals as goal
+
+pub returns-then-x-y : goal.returns-then-x-y
+returns-then-x-y c = unfold ne_of truth in simp (ne_eqb _ _ c.if-x-y.true)
+
+pub returns : goal.returns
+returns c = unfold ne_of truth in simp (eq-eqb _ _ c.if-x-y.false)

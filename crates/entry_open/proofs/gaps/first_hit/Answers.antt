@@ -1,0 +1,22 @@
+-- `entry_open::gaps::first_hit` meets its contract. After i records, what is left gives the first place still.
+use borrow.Author.Rules.{rules}
+use mathlib.Core.Bool.{not}
+use mathlib.Core.Path.{sym, ap, ◌∙◌}
+use native.Mathlib.Omega.{arith}
+use Prim.Native.Nat.{◌-◌}
+use Rattle.entry_open.proofs.Lowest.{first_found, first_next, first_none}
+use Rattle.entry_open.proofs.gaps.first_hit.Goals as goal
+
+pub loop-i-init : goal.loop-i-init
+loop-i-init c = (omega arith, omega arith)
+
+pub returns-then-not-is_clear : goal.returns-then-not-is_clear
+returns-then-not-is_clear c = let at = c in
+    first_found _ _ at.loop-i.i (search rules) at.loop-i.invariant.1 _ (omega arith) (sym (ap not c.is_clear.ensures) ∙ c.if-not-is_clear.true)
+
+pub loop-i-preserved : goal.loop-i-preserved
+loop-i-preserved c = let at = c in
+    (omega arith, first_next _ _ at.loop-i.i (search rules) at.loop-i.invariant.1 _ (omega arith) (sym (ap not c.is_clear.ensures) ∙ c.if-not-is_clear.false))
+
+pub returns : goal.returns
+returns c = first_none _ _ c.loop-i.i (search rules) c.loop-i.invariant.1 (omega arith)

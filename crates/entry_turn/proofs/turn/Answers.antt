@@ -1,0 +1,86 @@
+-- `entry_turn::turn` meets its contract.
+use borrow.Author.Tests.{le-leb, lt-leb}
+use lib.ListN.{length, set}
+use mathlib.Core.List.{List}
+use mathlib.Core.Path.{◌≡◌}
+use native.Mathlib.Omega.{arith}
+use Prim.Native.Nat.{ℕ, ◌+◌, ◌-◌, ◌≤◌}
+use Rattle.basis.specs.Part.{part}
+use Rattle.basis.proofs.Part.{part_take}
+use Rattle.sound.specs.declared.Bench.{Bench}
+use Rattle.sound.specs.declared.Session.{Session}
+use Rattle.sound.specs.Below.{Turned, Cpu, state_of, RanTo}
+use Rattle.sound.specs.Bench.{World, world_of, session_at, code_of, slot_of, at_sessions, at_cpu}
+use Rattle.sound.proofs.Below.{count_most}
+use Rattle.sound.proofs.Facts.{Opened}
+use Rattle.entry.specs.declared.Answer.{Answer}
+use Rattle.entry.specs.declared.Answer.TheVariants.{Done}
+use Rattle.entry.specs.Answer.{done}
+use Rattle.entry.specs.Entries.{done_of, ran_of, put, turn_of}
+use Rattle.entry.proofs.Refusing.{none_left, passed_first, fails, holds, refuses, accepts}
+use Rattle.entry_turn.proofs.turn.Goals as goal
+
+few_done : (code m : List ℕ) (f n base e k : ℕ) (c : Cpu) (r : Turned) (m' : List ℕ) → RanTo code m f n base e k c r m' → k ≤ 65535 → r.done ≤ 65535
+few_done code m f n base e k c r m' t h = omega (arith, t.done, count_most k code (part f (f + n) m) (state_of (part base e m) c))
+
+module _ (store : List ℕ) (w : World) (i k : ℕ) where
+  ran : (code : List ℕ) (se next : Session) (r : Turned) (a : Answer) (b : Bench) (m : List ℕ)
+      → se ≡ session_at w i
+      → code ≡ code_of store (slot_of w.bench.slots se)
+      → Opened store w se
+      → RanTo code w.mem se.window.first se.window.len se.base (se.base + se.len) k se.cpu r m
+      → next ≡ at_cpu se r.cpu
+      → b ≡ at_sessions w.bench (set w.bench.sessions i next)
+      → a ≡ Done r.done
+      → record { answer = a; world = world_of b m } ≡ done (done_of store i k w) (put i (ran_of store i k w) w)
+  ran code se next r a b m es ec f t en eb ea =
+      let o : w.bench.s ≤ length w.mem = omega (arith, f.above, f.inside) in
+      let seen = rw es at (part_take w.bench.s w.mem se.window.first (se.window.first + se.window.len) (omega arith) f.seen o) in
+      let t' = rw (ec, es) at t in
+      rw (ea, eb, en, es, t'.done, t'.cpu, t'.mem, seen)
+
+
+pub returns-in-Refused : goal.returns-in-Refused
+unfolding turn_of
+returns-in-Refused c =
+    let told = c in
+    refuses _ _ _ _ _ ((guarded_at told).refuses _ _ _ told.in-Refused.is) (c.refuse.ensures _)
+
+pub returns-then-k-gt65535 : goal.returns-then-k-gt65535
+unfolding turn_of
+returns-then-k-gt65535 c =
+    refuses _ _ _ _ _ (passed_first _ _ _ (going_at c).passes (fails _ _ _ _ (lt-leb _ 65535 c.if-k-gt65535.true)))
+    (c.refuse-then-k-gt65535.ensures _)
+
+pub overflow_add-end : goal.overflow_add-end
+overflow_add-end c = omega (arith, (going_at (few-at c)).session.inside)
+
+pub run-ran-requires : goal.run-ran-requires
+run-ran-requires c κs =
+    let coded = c in
+    let g = going_at (few-at coded) in
+    let f = g.session in
+    let se = (guard-at coded).session_at-se.result in
+    let l : se.base + se.len - se.base ≡ se.len = omega arith in
+    rw (coded_at coded, l) (f.checked, (f.cpu_ok_lem, (f.most, omega (arith, f.seen, g.few), omega (arith, f.seen, f.above), omega arith, f.inside)))
+
+pub with_session-out-requires : goal.with_session-out-requires
+with_session-out-requires c κs = (going_at (few-at c)).low
+
+pub steps_done-answer-requires : goal.steps_done-answer-requires
+steps_done-answer-requires c κs =
+    let running = c in
+    let few = (few-at running).if-k-gt65535.false in
+    let done = few_done _ _ _ _ _ _ _ _ _ _ running.run-ran.ensures (omega (arith, few)) in
+    omega (arith, few, done)
+
+pub returns : goal.returns
+unfolding turn_of
+returns c =
+    let stored = c in
+    let running = stored in
+    let coded = running in
+    let few = few-at coded in
+    accepts _ _ _ (passed_first _ _ _ (going_at few).passes (holds _ _ _ _ _ (le-leb _ 65535 few.if-k-gt65535.left) none_left))
+    (ran _ (world (guard-at coded)) _ _ _ _ _ running.run-ran.result _ _ _ (guard-at coded).session_at-se.ensures (coded_at coded)
+    (going_at few).session running.run-ran.ensures stored.at.ensures stored.with_session-out.ensures c.steps_done-answer.ensures)
