@@ -3,7 +3,7 @@
 use Prim.Native.Nat.{ℕ, suc, ◌+◌, ◌-◌, ◌≤◌}
 use native.Mathlib.Omega.{arith}
 use mathlib.Core.Path.{◌≡◌, sym}
-use mathlib.Core.List.{List, [], ◌∷◌, ◌++◌, reverse_cons}
+use mathlib.Core.List.{List, [], ◌∷◌, ◌++◌, reverse-cons}
 use mathlib.Core.Bool.{Bool}
 use lib.ListN.{length, set}
 use Rattle.operand.specs.Bytes.{word_by}
@@ -27,7 +27,7 @@ module _ (sex : Bool) (s w : List ℕ) (first n top : ℕ) where
   deeper k low high =
       let more : n - (k - 1) ≡ suc (n - k) = omega arith in
       let next : first + (k - 1) + 1 ≡ first + k = omega arith in
-      rw (more, next) (reverse_cons (word_by sex s (first + (k - 1))) (words_from sex s (first + k) (n - k)))
+      rw (more, next) (reverse-cons (word_by sex s (first + (k - 1))) (words_from sex s (first + k) (n - k)))
 
   pub one_pushed : (k v : ℕ) (m u : List ℕ) → 1 ≤ k → k ≤ n → n ≤ top → v ≡ word_by sex s (first + (k - 1)) → m ≡ written w (top - n) (from k)
       → u ≡ set m (top - 1 - (k - 1)) v → u ≡ written w (top - n) (from (k - 1))

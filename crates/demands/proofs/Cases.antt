@@ -9,7 +9,7 @@ use mathlib.Core.List.{List, [], ◌∷◌}
 use mathlib.Core.Bool.{Bool, true, false, ◌&&◌, not, cond}
 use lib.Dec.{eqb}
 use lib.ListN.{length, get_or, set, length-set}
-use lib.Seq.{get_or-set_same, get_or_set_other, set-get_or, set-set, set_comm}
+use lib.Seq.{get_or-set_same, get_or-set_other, set-get_or, set-set, set_comm}
 use borrow.Author.Tests.{lt-ltb, le-ltb, le-leb, eq-eqb, ne_eqb}
 use lib.IntN.{pos, nat_abs, sub_ℕ, ◌+ℤ◌, pos-ne-negsuc}
 use Rattle.basis.specs.Integer.{integer_of, truth, ordered, eq_of, leq_of}
@@ -31,7 +31,7 @@ pub read_same : (w : List ℕ) (i j v : ℕ) → i < length w → j ≡ i → ge
 read_same w i j v h e = rw e (get_or-set_same w i v 0 h)
 
 pub read_other : (w : List ℕ) (i j v : ℕ) {k : ℕ} → (k ≡ i → ⊥) → j ≡ k → get_or (set w i v) j 0 ≡ get_or w k 0
-read_other w i j v {k} h e = rw e (get_or_set_other w i k v 0 h)
+read_other w i j v {k} h e = rw e (get_or-set_other w i k v 0 h)
 
 set_same : (l : List ℕ) (i v : ℕ) → get_or l i 0 ≡ v → set l i v ≡ l
 set_same l i v e = ap (set l i) (sym e) ∙ set-get_or l i 0

@@ -7,7 +7,7 @@ use Prim.Native.Nat.{ℕ, ◌+◌, ◌-◌, ◌≤◌, ◌<◌}
 use native.Mathlib.Omega.{arith}
 use lib.Dec.{leb, ltb}
 use lib.ListN.{length, get_or, take}
-use lib.Seq.{get_or-set_same, get_or_set_other, ext_get_or}
+use lib.Seq.{get_or-set_same, get_or-set_other, ext_get_or}
 use borrow.Author.Tests.{leb-true, ltb-true}
 use Rattle.basis.proofs.Bools.{or_cases}
 use Rattle.basis.specs.Part.{part}
@@ -90,7 +90,7 @@ module _ (store : List ℕ) (w : World) (g : Sound store w) (i : ℕ) (u : (sess
     put_own = rw (same_rec, words_own)
 
     other_rec : (j : ℕ) → (j ≡ i → ⊥) → session_at (put i st w) j ≡ session_at w j
-    other_rec j d = get_or_set_other w.bench.sessions i j (at_cpu (session_at w i) (cpu_of st)) no_session d
+    other_rec j d = get_or-set_other w.bench.sessions i j (at_cpu (session_at w i) (cpu_of st)) no_session d
 
     -- a word outside the region is as it was
     put_below : (j : ℕ) → j < base → get_or (put i st w).mem j 0 ≡ get_or w.mem j 0

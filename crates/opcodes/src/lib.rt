@@ -2,6 +2,7 @@
 // Above: `instruction`, which reads rows of it for listings, causes and the place of a fault. Below: the opcode definition of `pmachine`. A step that
 // does not fault has no table: its flat match tells the bytes apart (`judge`).
 #![tactic(auto)]
+
 ghost use Rattle.opcodes.specs.Packed.{Agrees};
 
 // Every first byte: its operands' digits to base 8 times 65,536, the words given times 256, and the words taken; or the top bit and the

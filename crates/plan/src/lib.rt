@@ -1,6 +1,7 @@
 // What a step is judged with: registers and what becomes of them, what a segment says, and what changes; and the two functions that every part asks.
 // Above: `plan_stack`, `plan_places`, `plan_calls` and `plan_pool`, what each meaning comes to, and all that names registers; below: the definition of a step.
 #![tactic(auto)]
+
 ghost use Rattle.std.specs.Prelude.{◌≡◌, List, ℕ, ◌-◌, ◌≤◌, ◌<◌, min, length, get_or};
 ghost use Rattle.pmachine.specs.Step.{moved, lowered};
 ghost use Rattle.plan.specs.Answer.{regs_of, outcome_of};

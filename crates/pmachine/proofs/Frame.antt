@@ -7,7 +7,7 @@ use mathlib.Core.Path.{◌≡◌, refl, sym, ap, ◌∙◌}
 use mathlib.Core.List.{List, [], ◌∷◌, ◌++◌}
 use mathlib.Core.Bool.{true, false, false≢true}
 use lib.ListN.{length, get_or, set, length-set}
-use lib.Seq.{get_or-set_same, get_or_set_other}
+use lib.Seq.{get_or-set_same, get_or-set_other}
 use Rattle.pmachine.specs.State.{Registers, ready, faulted, State}
 use Rattle.pmachine.specs.Step.{Outcome, fault, finish, goes, judge}
 use Rattle.pmachine.specs.Run.{is_ready, written, place_of, settled, step}
@@ -19,7 +19,7 @@ use Rattle.pmachine.proofs.Runs.{step_ready}
 pub written_below : (ws w : List ℕ) (at i : ℕ) → i < at → get_or (written w at ws) i 0 ≡ get_or w i 0
 unfolding written
 written_below [] w at i h = refl
-written_below (v ∷ vs) w at i h = written_below vs (set w at v) (at + 1) i (omega arith) ∙ get_or_set_other w at i v 0 (omega arith)
+written_below (v ∷ vs) w at i h = written_below vs (set w at v) (at + 1) i (omega arith) ∙ get_or-set_other w at i v 0 (omega arith)
 
 pub written_at : (ws w : List ℕ) (at k : ℕ) → at + length ws ≤ length w → k < length ws → get_or (written w at ws) (at + k) 0 ≡ get_or ws k 0
 unfolding written

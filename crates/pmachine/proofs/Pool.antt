@@ -4,7 +4,7 @@ use Prim.Native.Nat.{ℕ, zero, suc, ◌+◌, ◌≤◌}
 use native.Mathlib.Nat.{add-zero}
 use native.Mathlib.Omega.{arith}
 use mathlib.Core.Path.{◌≡◌, refl, sym, ap, ◌∙◌}
-use mathlib.Core.List.{List, [], ◌∷◌, ◌++◌, reverse, reverse_cons}
+use mathlib.Core.List.{List, [], ◌∷◌, ◌++◌, reverse, reverse-cons}
 use mathlib.Core.Bool.{Bool, true, false, ◌&&◌, ◌||◌, not}
 use lib.Dec.{leb, eqb}
 use lib.ListN.{length, length-reverse}
@@ -31,7 +31,7 @@ module _ (sex : Bool) (s : List ℕ) where
 pub reverse_snoc : (ws : List ℕ) (v : ℕ) → reverse (ws ++ (v ∷ [])) ≡ v ∷ reverse ws
 reverse_snoc [] v = refl
 reverse_snoc (w ∷ ws) v =
-    reverse_cons w (ws ++ (v ∷ [])) ∙ ap (λ (x : List ℕ). x ++ (w ∷ [])) (reverse_snoc ws v) ∙ ap (λ (x : List ℕ). v ∷ x) (sym (reverse_cons w ws))
+    reverse-cons w (ws ++ (v ∷ [])) ∙ ap (λ (x : List ℕ). x ++ (w ∷ [])) (reverse_snoc ws v) ∙ ap (λ (x : List ℕ). v ∷ x) (sym (reverse-cons w ws))
 
 pub top_one : (sex : Bool) (s : List ℕ) (from n : ℕ)
     → on_top (words_from sex s from (suc n)) ≡ word_by sex s (from + n) ∷ on_top (words_from sex s from n)

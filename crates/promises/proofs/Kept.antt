@@ -8,7 +8,7 @@ use Prim.Native.Nat.{ℕ, ◌+◌, ◌-◌, ◌%◌, ◌≤◌, ◌<◌}
 use native.Mathlib.Omega.{arith}
 use lib.Dec.{leb, eqb}
 use lib.ListN.{length, set, replicate, length-set, length-replicate}
-use lib.Seq.{get_or_set_other}
+use lib.Seq.{get_or-set_other}
 use borrow.Author.Tests.{leb-true, eq-eqb, not-true}
 use Rattle.basis.proofs.Bools.{every_holds, holds_every, and_snd, both_true, or_cases}
 use Rattle.basis.proofs.Part.{length_splice}
@@ -112,7 +112,7 @@ module _ (store : List ℕ) (w : World) (g : Sound store w) (slot start len : �
   -- a session that is open names another slot
   same_slot : (se : Session) → (slot_of w.bench.slots se).loaded ≡ true → slot_of slots' se ≡ slot_of w.bench.slots se
   same_slot se h =
-      get_or_set_other w.bench.slots slot se.slot (loaded_slot start len) no_slot
+      get_or-set_other w.bench.slots slot se.slot (loaded_slot start len) no_slot
       (λ e. false≢true (sym free ∙ ap (λ (x : ℕ). (slot_at w.bench.slots x).loaded) (sym e) ∙ h))
 
   still_ok : (se : Session) → session_ok store w.bench.slots se ≡ true → session_ok store slots' se ≡ true

@@ -5,7 +5,7 @@ use mathlib.Core.List.{List}
 use Prim.Native.Nat.{ℕ, zero, suc, ◌+◌, ◌-◌, ◌≤◌, ◌<◌}
 use native.Mathlib.Omega.{arith}
 use lib.ListN.{length, get_or, replicate, length-replicate}
-use lib.Seq.{get_or_set_other}
+use lib.Seq.{get_or-set_other}
 use Rattle.basis.proofs.Part.{length_splice, get_d_part, part_splice, get_or_below, get_or_above}
 use Rattle.sound.specs.Bench.{no_session, World}
 use Rattle.sound.specs.declared.Session.{Session}
@@ -47,5 +47,5 @@ module _ (w : World) (i : ℕ) (se : Session) (a len : ℕ) (f : a + len ≤ len
   only =
       record {
         same_bench = refl;
-        same_others = λ j d. get_or_set_other w.bench.sessions i j se no_session d;
+        same_others = λ j d. get_or-set_other w.bench.sessions i j se no_session d;
       }

@@ -2,6 +2,7 @@
 // Below: the operands. Above: `instruction`, and so listings, the place of a fault and what is told of it.
 // `next` takes the struct apart and calls a function on the slice and numbers; `read_at` is for callers with a slice and numbers.
 #![tactic(auto)]
+
 ghost use Rattle.std.specs.Prelude.{◌≡◌};
 ghost use Rattle.operand.specs.Operand.{fetched, fetched_of, form_at};
 

@@ -12,7 +12,7 @@ use mathlib.Core.List.{List, ◌++◌}
 use mathlib.Core.Bool.{Bool, true, false, ◌||◌, cond}
 use borrow.Author.Tests.{eq-eqb, ne_eqb, eqb-true, eqb-false}
 use lib.ListN.{length, get_or, set, drop, length-set, length-append, get_or-append}
-use lib.Seq.{paste, paste-suc, take_all, get_or-set_same, get_or_set_other, get_or-append-add, ext_get_or}
+use lib.Seq.{paste, paste-suc, take_all, get_or-set_same, get_or-set_other, get_or-append-add, ext_get_or}
 use lib.Dec.{eqb}
 use Rattle.operand.specs.Bytes.{byte_at}
 use Rattle.turning.specs.Turn.{other, list_of, swap_byte, swap_at}
@@ -113,7 +113,7 @@ module _ (s out : List ℕ) (w : ℕ) (r : 2 * w + 1 < length out) where
 
   low : get_or pair (2 * w) 0 ≡ byte_at s (2 * w + 1)
   low =
-      get_or_set_other (set out (2 * w) (byte_at s (2 * w + 1))) (2 * w + 1) (2 * w) (byte_at s (2 * w)) 0 (λ (e : 2 * w ≡ 2 * w + 1). omega arith)
+      get_or-set_other (set out (2 * w) (byte_at s (2 * w + 1))) (2 * w + 1) (2 * w) (byte_at s (2 * w)) 0 (λ (e : 2 * w ≡ 2 * w + 1). omega arith)
       ∙ get_or-set_same out (2 * w) (byte_at s (2 * w + 1)) 0 (omega arith)
 
   high : get_or pair (2 * w + 1) 0 ≡ byte_at s (2 * w)
@@ -128,8 +128,8 @@ module _ (s out : List ℕ) (w : ℕ) (r : 2 * w + 1 < length out) where
 
   neither : (i : ℕ) → (w ≡ i / 2 → ⊥) → get_or pair i 0 ≡ byte_at out i
   neither i h =
-      get_or_set_other (set out (2 * w) (byte_at s (2 * w + 1))) (2 * w + 1) i (byte_at s (2 * w)) 0 (λ (e : i ≡ 2 * w + 1). h (omega arith))
-      ∙ get_or_set_other out (2 * w) i (byte_at s (2 * w + 1)) 0 (λ (e : i ≡ 2 * w). h (omega arith))
+      get_or-set_other (set out (2 * w) (byte_at s (2 * w + 1))) (2 * w + 1) i (byte_at s (2 * w)) 0 (λ (e : i ≡ 2 * w + 1). h (omega arith))
+      ∙ get_or-set_other out (2 * w) i (byte_at s (2 * w + 1)) 0 (λ (e : i ≡ 2 * w). h (omega arith))
 
   at_byte : (i : ℕ) (b : Bool) → eqb w (i / 2) ≡ b → get_or pair i 0 ≡ swap_byte (eqb w) s out i
   at_byte i true h = both i (eqb-true w (i / 2) h) ∙ sym (swap_in (eqb w) s out i h)

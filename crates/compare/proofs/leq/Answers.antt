@@ -10,11 +10,11 @@ unfolding truth
 returns-then-wrapping_add_u16 c =
     let sums = c in
     let a = sums.args in
-    rw (leq_is a.x a.y (search rules) (search rules), ← sums.wrapping_add_u16.ensures, ← sums.wrapping_add_u16-2.ensures, le-leb _ _ c.if-wrapping_add_u16.true)
+    rw (leq_is a.x a.y (search rules) (search rules), ← sums.wrapping_add_u16.ensures.value, ← sums.wrapping_add_u16-2.ensures.value, le-leb _ _ c.if-wrapping_add_u16.true)
 
 pub returns : goal.returns
 unfolding truth
 returns c =
     let sums = c in
     let a = sums.args in
-    rw (leq_is a.x a.y (search rules) (search rules), ← sums.wrapping_add_u16.ensures, ← sums.wrapping_add_u16-2.ensures, lt-leb _ _ c.if-wrapping_add_u16.false)
+    rw (leq_is a.x a.y (search rules) (search rules), ← sums.wrapping_add_u16.ensures.value, ← sums.wrapping_add_u16-2.ensures.value, lt-leb _ _ c.if-wrapping_add_u16.false)

@@ -6,4 +6,4 @@ use Rattle.word.proofs.inc.Goals as goal
 pub returns : goal.returns
 returns c =
     let a = c.args in
-    c.wrapping_add_u16.ensures ∙ sym (add_is a.x 1 (search rules) (search rules)) ∙ sym (inc_is a.x (search rules))
+    c.wrapping_add_u16.ensures.value ∙ sym (add_is a.x 1 (search rules) (search rules)) ∙ sym (inc_is a.x (search rules))

@@ -21,7 +21,7 @@ loop-left-preserved c =
     let p = c.times in
     let s = c.wrapping_add_u16-sum in
     let moved : l.factor % 256 * 256 ≡ l.factor * 256 % 65536 = omega arith in
-    (search rules, rw s.ensures (digit 65536 256 l.sum l.factor l.left p.result (l.factor % 256 * 256) p.ensures moved ∙ l.invariant.1))
+    (search rules, rw s.ensures.value (digit 65536 256 l.sum l.factor l.left p.result (l.factor % 256 * 256) p.ensures moved ∙ l.invariant.1))
 
 pub returns : goal.returns
 returns c =

@@ -6,5 +6,5 @@ use Rattle.word.proofs.neg.Goals as goal
 pub returns : goal.returns
 returns c =
     let a = c.args in
-    sub_wraps 0 a.x (search rules) (search rules) c.wrapping_sub_u16.result (search rules) c.wrapping_sub_u16.ensures
+    sub_wraps 0 a.x (search rules) (search rules) c.wrapping_sub_u16.result (search rules) c.wrapping_sub_u16.ensures.value
     ∙ sym (neg_sub a.x (search rules))
