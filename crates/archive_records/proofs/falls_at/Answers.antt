@@ -12,13 +12,13 @@ unfolding never_falls
 loop-r-init c = (omega arith, (omega arith, refl))
 
 pub farm_at-requires : goal.farm_at-requires
-farm_at-requires c κs = omega (arith, c.loop-r-test.true)
+farm_at-requires c = omega (arith, c.loop-r-test.true)
 
 pub overflow_sub-r : goal.overflow_sub-r
 overflow_sub-r c = c.loop-r.invariant.0
 
 pub farm_at-requires-in-loop-r : goal.farm_at-requires-in-loop-r
-farm_at-requires-in-loop-r c κs = omega (arith, c.loop-r-test.true)
+farm_at-requires-in-loop-r c = omega (arith, c.loop-r-test.true)
 
 pub returns-then-farm_at : goal.returns-then-farm_at
 returns-then-farm_at c =

@@ -40,7 +40,7 @@ unfolding how_many first_of
 loop-r-init c = ((omega arith, (omega arith, omega arith)), (refl, refl))
 
 pub farm_at-requires : goal.farm_at-requires
-farm_at-requires c κs = omega (arith, c.loop-r-test.true)
+farm_at-requires c = omega (arith, c.loop-r-test.true)
 
 pub loop-r-smaller : goal.loop-r-smaller
 loop-r-smaller c = omega (arith, c.loop-r-test.true)

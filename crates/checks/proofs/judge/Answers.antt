@@ -6,7 +6,7 @@ use Rattle.segment.proofs.Laws.{judged_is}
 use Rattle.checks.proofs.judge.Goals as goal
 
 pub judge_routines-requires : goal.judge_routines-requires
-judge_routines-requires c κs = sym c.judge_head-v.ensures ∙ ap ruling_of c.in-Accepted.is
+judge_routines-requires c = sym c.judge_head-v.ensures ∙ ap ruling_of c.in-Accepted.is
 
 pub returns-in-Accepted : goal.returns-in-Accepted
 unfolding followed_by

@@ -16,7 +16,7 @@ loop-k-init c =
     (omega arith, rw e)
 
 pub routine_passes-requires : goal.routine_passes-requires
-routine_passes-requires c κs =
+routine_passes-requires c =
     let head = c in
     let start = head in
     let w = ap (λ (h : Segment). h.words) head.head-h.ensures in

@@ -8,10 +8,10 @@ use Rattle.commit.proofs.put_all.Goals as goal
 pub loop-left-init : goal.loop-left-init
 loop-left-init c =
     let a = c.args in
-    (omega arith, refl, none_pushed _ a.seg.now a.region-1.now a.first a.n a.top)
+    (omega arith, refl, none_pushed _ a.seg.now a.region.now a.first a.n a.top)
 
 pub put-requires : goal.put-requires
-put-requires c κs =
+put-requires c =
     let l = c.loop-left in
     let start = c in
     omega (arith, l.invariant.0, l.invariant.1, start.requires)
@@ -25,7 +25,7 @@ loop-left-preserved c =
     let t = c.put in (
       omega (arith, l.invariant.0),
       t.auto.0 ∙ l.invariant.1,
-      one_pushed _ a.seg.now a.region-1.now a.first a.n a.top l.left _ l.region-1 _ c.loop-left-test.true
+      one_pushed _ a.seg.now a.region.now a.first a.n a.top l.left _ l.region _ c.loop-left-test.true
           l.invariant.0 start.requires.0 c.word_at-v.ensures l.invariant.2 t.ensures,
     )
 

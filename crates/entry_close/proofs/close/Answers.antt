@@ -20,7 +20,7 @@ returns-in-Refused c =
     refuses _ _ _ _ _ ((guarded_at told).refuses [] _ _ told.in-Refused.is) (c.refuse.ensures _)
 
 pub clear-out-requires : goal.clear-out-requires
-clear-out-requires c κs =
+clear-out-requires c =
     let told = c in
     let g = (guarded_at told).goes told.in_default.is in
     (omega (arith, g.low), omega (arith, g.session.inside))

@@ -31,7 +31,7 @@ returns-in-Refused-v c =
     refuses _ _ _ _ _ (ruled_at told ∙ ap ruling_of told.in-Refused-v.is) (c.refuse-in-Refused-v.ensures _)
 
 pub with_slot-out-requires : goal.with_slot-out-requires
-with_slot-out-requires c κs =
+with_slot-out-requires c =
     let range = ranged c in
     let slot = (start (guard-at range)).args.slot in
     leb-true slot 15 (and_fst (leb slot 15) _ (begun_at range).named)

@@ -52,10 +52,10 @@ returns-then-i-gt15 c =
     (c.refuse-then-i-gt15.ensures _)
 
 pub gap_for-gap-requires : goal.gap_for-gap-requires
-gap_for-gap-requires c κs = let g = begun_at (sized-at (sized c)) in (g.limits.words, g.places)
+gap_for-gap-requires c = let g = begun_at (sized-at (sized c)) in (g.limits.words, g.places)
 
 pub clear-out-requires : goal.clear-out-requires
-clear-out-requires c κs =
+clear-out-requires c =
     let told = c in
     let gapped = told in
     let g = begun_at (sized-at (sized gapped)) in

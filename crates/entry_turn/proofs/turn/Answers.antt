@@ -56,7 +56,7 @@ pub overflow_add-end : goal.overflow_add-end
 overflow_add-end c = omega (arith, (going_at (few-at c)).session.inside)
 
 pub run-ran-requires : goal.run-ran-requires
-run-ran-requires c κs =
+run-ran-requires c =
     let coded = c in
     let g = going_at (few-at coded) in
     let f = g.session in
@@ -65,10 +65,10 @@ run-ran-requires c κs =
     rw (coded_at coded, l) (f.checked, (f.cpu_ok_lem, (f.most, omega (arith, f.seen, g.few), omega (arith, f.seen, f.above), omega arith, f.inside)))
 
 pub with_session-out-requires : goal.with_session-out-requires
-with_session-out-requires c κs = (going_at (few-at c)).low
+with_session-out-requires c = (going_at (few-at c)).low
 
 pub steps_done-answer-requires : goal.steps_done-answer-requires
-steps_done-answer-requires c κs =
+steps_done-answer-requires c =
     let running = c in
     let few = (few-at running).if-k-gt65535.false in
     let done = few_done _ _ _ _ _ _ _ _ _ _ running.run-ran.ensures (omega (arith, few)) in

@@ -10,7 +10,7 @@ returns-in_default c =
     stops a.seg.now a.shared.now a.region.now a.r _ first.decode.ensures c.in_default.is
 
 pub act-requires : goal.act-requires
-act-requires c κs =
+act-requires c =
     let first = c in
     let start = first in
     let a = start.args in

@@ -15,7 +15,7 @@ unfolding entered
 returns-then-facts-k c = simp (← c.requires.1.counts, lt-ltb _ _ c.if-facts-k.true, le-ltb _ _ c.if-k-lt1.false)
 
 pub word_in-size-requires : goal.word_in-size-requires
-word_in-size-requires c κs =
+word_in-size-requires c =
     let counted = c in
     let start = counted in
     let a = start.args in

@@ -6,7 +6,7 @@ use Rattle.pmachine.proofs.Links.{follow_none, follow_more}
 use Rattle.plan_calls.proofs.link.Goals as goal
 
 pub word_of-to-requires : goal.word_of-to-requires
-word_of-to-requires c κs = omega arith
+word_of-to-requires c = omega arith
 
 pub overflow_cast-to : goal.overflow_cast-to
 overflow_cast-to c = omega arith

@@ -17,7 +17,7 @@ returns-in_default c =
     rw linked.if-d-eq2.true (sym (one_broken a.region.now a.m 2 (λ z. omega (arith, z)) e))
 
 pub link-requires-then-d-eq2-2 : goal.link-requires-then-d-eq2-2
-link-requires-then-d-eq2-2 c κs =
+link-requires-then-d-eq2-2 c =
     let linked = c in
     let a = linked.args in
     one_inside a.region.now a.m _ (sym linked.link-then-d-eq2.ensures ∙ ap link_of c.in-Record.is)
@@ -30,7 +30,7 @@ returns-then-d-eq2 c =
     rw linked.if-d-eq2.true (c.link-then-d-eq2-2.ensures ∙ sym (one_more a.region.now a.m 2 _ (λ z. omega (arith, z)) e))
 
 pub walk-requires : goal.walk-requires
-walk-requires c κs = let start = c in rw (part_all start.args.region.now) start.requires
+walk-requires c = let start = c in rw (part_all start.args.region.now) start.requires
 
 pub returns : goal.returns
 returns c = let a = c.args in rw (part_all a.region.now) at c.walk.ensures

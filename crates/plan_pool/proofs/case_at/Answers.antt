@@ -14,7 +14,7 @@ returns-then-facts-at c =
     simp (case_told a.seg.now a.facts start.requires.1 a.i a.b, lt-ltb _ _ c.if-facts-at.true)
 
 pub word_in-low-requires : goal.word_in-low-requires
-word_in-low-requires c κs =
+word_in-low-requires c =
     let start = c in
     omega (arith, c.if-facts-at.false, start.requires.1.reals, start.requires.0.reals_high, start.requires.0.even)
 
@@ -32,7 +32,7 @@ returns-then-leq-ne1 c =
     )
 
 pub word_in-high-requires : goal.word_in-high-requires
-word_in-high-requires c κs =
+word_in-high-requires c =
     let tested = c in
     let start = tested in
     omega (arith, tested.if-facts-at.false, start.requires.1.reals, start.requires.0.reals_high, start.requires.0.even)
@@ -66,7 +66,7 @@ returns-then-facts-arm c =
     simp (left, ← c.sub.ensures, le-leb _ _ c.if-facts-arm.true)
 
 pub word_in-requires : goal.word_in-requires
-word_in-requires c κs =
+word_in-requires c =
     let start = c in
     omega (arith, c.if-facts-arm.false, start.requires.1.reals, start.requires.0.reals_high, start.requires.0.even)
 

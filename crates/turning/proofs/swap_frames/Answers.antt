@@ -7,10 +7,10 @@ use Rattle.turning.proofs.Positions.{entry_fits, frames_start, frames_more, fram
 use Rattle.turning.proofs.swap_frames.Goals as goal
 
 pub loop-k-init : goal.loop-k-init
-loop-k-init c = (omega arith, refl, frames_start c.args.seg.now c.args.out-1.now)
+loop-k-init c = (omega arith, refl, frames_start c.args.seg.now c.args.out.now)
 
 pub swap_words-requires : goal.swap_words-requires
-swap_words-requires c κs =
+swap_words-requires c =
     let read = c in
     let start = read in
     let e = ap (λ (r : Routine). r.entry) read.routine_of-r.ensures in
@@ -25,7 +25,7 @@ loop-k-preserved-then-e-ne0 c =
     let l = read.loop-k in
     let start = read in
     let e = ap (λ (r : Routine). r.entry) read.routine_of-r.ensures in
-    (omega arith, t.auto.1.0 ∙ l.invariant.1, t.ensures ∙ frames_more start.args.seg.now start.args.out-1.now l.k l.invariant.2 e (omega (arith, asked.if-e-ne0.true)))
+    (omega arith, t.auto.1.0 ∙ l.invariant.1, t.ensures ∙ frames_more start.args.seg.now start.args.out.now l.k l.invariant.2 e (omega (arith, asked.if-e-ne0.true)))
 
 pub loop-k-preserved : goal.loop-k-preserved
 loop-k-preserved c =
@@ -33,7 +33,7 @@ loop-k-preserved c =
     let l = read.loop-k in
     let start = read in
     let e = ap (λ (r : Routine). r.entry) read.routine_of-r.ensures in
-    (omega arith, l.invariant.1, frames_same start.args.seg.now start.args.out-1.now l.k l.invariant.2 e c.if-e-ne0.false)
+    (omega arith, l.invariant.1, frames_same start.args.seg.now start.args.out.now l.k l.invariant.2 e c.if-e-ne0.false)
 
 pub shape_of-out : goal.shape_of-out
 shape_of-out c = c.loop-k.invariant.1

@@ -8,10 +8,10 @@ use Rattle.turning.proofs.swap_words.Goals as goal
 pub loop-w-init : goal.loop-w-init
 loop-w-init c =
     let a = c.args in
-    (omega arith, omega arith, refl, range_start a.seg.now a.out-1.now a.first)
+    (omega arith, omega arith, refl, range_start a.seg.now a.out.now a.first)
 
 pub swap_word-requires : goal.swap_word-requires
-swap_word-requires c κs = (omega arith, omega arith)
+swap_word-requires c = (omega arith, omega arith)
 
 pub loop-w-preserved : goal.loop-w-preserved
 loop-w-preserved c =
@@ -19,7 +19,7 @@ loop-w-preserved c =
     let a = turn.args in
     let l = turn.loop-w in
     let t = c.swap_word in
-    (omega arith, omega arith, t.auto.1.0 ∙ l.invariant.2, t.ensures ∙ range_more a.seg.now a.out-1.now a.first l.w (omega arith) l.invariant.3)
+    (omega arith, omega arith, t.auto.1.0 ∙ l.invariant.2, t.ensures ∙ range_more a.seg.now a.out.now a.first l.w (omega arith) l.invariant.3)
 
 pub shape_of-out : goal.shape_of-out
 shape_of-out c = c.loop-w.invariant.2

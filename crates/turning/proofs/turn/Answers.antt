@@ -6,7 +6,7 @@ use Rattle.turning.proofs.Positions.{turn_good}
 use Rattle.turning.proofs.turn.Goals as goal
 
 pub turn_words-requires : goal.turn_words-requires
-turn_words-requires c κs =
+turn_words-requires c =
     let told = c in
     let t = turn_good _ _ (sym told.judge_turn-v.ensures ∙ ap ruling_of told.in-Accepted.is) in
     (t.0, t.2)

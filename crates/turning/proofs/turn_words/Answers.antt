@@ -7,21 +7,21 @@ use Rattle.turning.proofs.Positions.{all_written}
 use Rattle.turning.proofs.turn_words.Goals as goal
 
 pub swap_words-requires : goal.swap_words-requires
-swap_words-requires c κs =
+swap_words-requires c =
     let copied = c in
     let start = copied in
     let g = (all_good start.args.seg.now start.requires.0).header in
     (omega arith, omega arith, omega arith)
 
 pub swap_words-requires-2 : goal.swap_words-requires-2
-swap_words-requires-2 c κs =
+swap_words-requires-2 c =
     let copied = c in
     let start = copied in
     let g = (all_good start.args.seg.now start.requires.0).header in
     (omega arith, omega arith, omega arith)
 
 pub swap_words-requires-3 : goal.swap_words-requires-3
-swap_words-requires-3 c κs =
+swap_words-requires-3 c =
     let copied = c in
     let head = copied in
     let start = head in
@@ -29,7 +29,7 @@ swap_words-requires-3 c κs =
     (omega arith, omega (arith, ap (λ (h : Segment). h.dict) head.head-h.ensures, ap (λ (h : Segment). h.count) head.head-h.ensures), omega arith)
 
 pub swap_frames-requires : goal.swap_frames-requires
-swap_frames-requires c κs =
+swap_frames-requires c =
     let head = c in
     let start = head in
     (start.requires.0, omega arith, ap (λ (h : Segment). h.count) head.head-h.ensures)

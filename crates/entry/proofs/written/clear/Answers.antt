@@ -24,5 +24,5 @@ returns c =
     λ j.
     record {
       bench = c.with_session.ensures j;
-      mem = part_cleared a.memory-1.now words.clear_words.new.0 a.base a.len start.requires.1 words.clear_words.ensures j;
+      mem = part_cleared a.memory.now words.clear_words.new.0 a.base a.len start.requires.1 words.clear_words.ensures j;
     }

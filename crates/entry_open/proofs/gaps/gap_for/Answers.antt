@@ -14,7 +14,7 @@ pub returns-then-n-a : goal.returns-then-n-a
 returns-then-n-a c = full _ _ _ _ _ c.loop-a.invariant (omega arith)
 
 pub first_hit-h-requires : goal.first_hit-h-requires
-first_hit-h-requires c κs = tt
+first_hit-h-requires c = tt
 
 pub returns-then-h-gt15 : goal.returns-then-h-gt15
 returns-then-h-gt15 c =

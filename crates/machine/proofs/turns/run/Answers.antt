@@ -12,7 +12,7 @@ pub loop-left-init : goal.loop-left-init
 loop-left-init c = let start = c in going_start start.requires start.args.k
 
 pub step-requires : goal.step-requires
-step-requires c κs = let start = c in going_steady start.requires start.args.k c.loop-left.invariant
+step-requires c = let start = c in going_steady start.requires start.args.k c.loop-left.invariant
 
 pub overflow_sub-left : goal.overflow_sub-left
 overflow_sub-left c = omega (arith, c.loop-left-test.true)
