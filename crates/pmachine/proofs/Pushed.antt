@@ -177,6 +177,10 @@ pool_words s ld b n i e h =
     let high = leb-true (pool s + b + n) (real_pool s) (sym (in_pool_lem s b n some) ∙ e) in
     (some_pool s b n e, omega arith, ld.reals_high)
 
+no_words : (sex : Bool) (s : List ℕ) (from : ℕ) → words_from sex s from zero ≡ []
+unfolding words_from
+no_words sex s from = refl
+
 module _ (s t : List ℕ) (same : SamePool s t) where
   same_in : (b n : ℕ) → in_pool t b n ≡ in_pool s b n
   unfolding in_pool
@@ -195,12 +199,16 @@ module _ (s t : List ℕ) (same : SamePool s t) where
   unfolding word
   same_word x l h = rw same.sex (same.agree (least s) x l h)
 
+  same_swaps : (mode : ℕ) → swaps t mode ≡ swaps s mode
+  unfolding swaps
+  same_swaps mode = rw same.sex refl
+
   same_constants : (mode b n : ℕ) → in_pool s b n ≡ true → constants_of t mode b n ≡ constants_of s mode b n
-  unfolding constants_of swaps words_from
-  same_constants mode b zero e = refl
+  unfolding constants_of
+  same_constants mode b zero e = no_words (not (swaps t mode)) t (pool t + b) ∙ sym (no_words (not (swaps s mode)) s (pool s + b))
   same_constants mode b (suc n) e =
       let high = leb-true (pool s + b + suc n) (real_pool s) (sym (in_pool_lem s b (suc n) (omega arith)) ∙ e) in
-      rw (same.pools, same.sex) (same_from _ (pool s + b) (suc n) (omega arith) high)
+      rw (same.pools, same_swaps mode) (same_from _ (pool s + b) (suc n) (omega arith) high)
 
   same_came : (r : Registers) (mode b n next : ℕ) → ldc_comes t r mode b n next ≡ ldc_comes s r mode b n next
   same_came r mode b n next = go (in_pool s b n) refl
