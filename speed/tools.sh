@@ -12,23 +12,23 @@ needs() {
 }
 
 needs rt
-kit=$(dirname "$(dirname "$(rt doc)")")
-tools=$kit/on/$machine/toolchain
+kit=$(dirname "$(rt doc)")
+tools=$kit/toolchain
 clang=${CLANG:-$tools/bin/clang}
 [ -x "$clang" ] || { echo "$0: the toolchain at $kit is not for this processor, $machine" >&2; exit 2; }
 
 # proved CRATE: proves it, and sets lib to its archive for this processor and lib_x86 to the one for x86-64. The toolchain compiles for x86-64
 # alone; on another processor the LLVM module that it compiled is compiled again for this one, with the same switches.
 proved() {
-    lib_x86=target/staticlib/lib$1.a lib=$out/lib$1.a
+    lib_x86=crates/$1/out/lib$1.a lib=$out/lib$1.a
     if [ "$machine" = x86_64 ]; then
         lib=$lib_x86
-        rt staticlib "$1" > $out/"$1".log 2>&1 || { cat $out/"$1".log; exit 1; }
+        (cd crates/"$1" && rt lib) > $out/"$1".log 2>&1 || { cat $out/"$1".log; exit 1; }
         return
     fi
     mirror
     rm -f $out/kept/*.bc
-    RATTLE_HOME=$PWD/$out/mirror rt staticlib "$1" > $out/"$1".log 2>&1 || { cat $out/"$1".log; exit 1; }
+    (cd crates/"$1" && RATTLE_HOME=$OLDPWD/$out/mirror rt lib) > $out/"$1".log 2>&1 || { cat $out/"$1".log; exit 1; }
     again "$(ls $out/kept/*.bc)" $out/$1
     rm -f $lib
     "$tools/bin/llvm-ar" rcs $lib $out/$1.o
