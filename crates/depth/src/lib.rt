@@ -1,6 +1,7 @@
 // How deep a session's stack went, in the numbers by which a farmer orders a region: the words that it never reached, and the least region that would have done.
 // Above it: what is told of a session. Below it: nothing; what the numbers mean, and that they are the right ones to order by, is in specs/.
 #![tactic(auto)]
+
 ghost use Rattle.std.specs.Prelude.{◌≡◌, ◌-◌};
 ghost use Rattle.depth.specs.Depth.{unreached, told};
 
