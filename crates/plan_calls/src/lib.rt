@@ -1,6 +1,7 @@
 // Jumps, the static-link walk, calls and returns.
 // Above: `judge`, and `cause` for the walk; below: `plan`, and the words of a segment.
 #![tactic(auto)]
+
 ghost use Rattle.std.specs.Prelude.{◌≡◌, List, ℕ, ◌+◌, ◌≤◌, ◌<◌, length};
 ghost use Rattle.pmachine.specs.Step.{follow, mark_at, target};
 ghost use Rattle.pmachine.specs.Sound.{Loaded};

@@ -13,7 +13,7 @@ returns-then-dynamic-lt1 c = disordered _ _ _ _ _ _ (λ a b d e f g h i. not-le_
 
 pub overflow_add-dynamic : goal.overflow_add-dynamic
 overflow_add-dynamic c =
-    let e : Fits w16 (get_or c.args.t4 1 0) = search rules in omega (arith, e.fits)
+    let e : Fits w16 (get_or c.args.mark 1 0) = search rules in omega (arith, e.fits)
 
 pub returns-then-size-dynamic : goal.returns-then-size-dynamic
 returns-then-size-dynamic c = disordered _ _ _ _ _ _ (λ a b d e f g h i. not-le_of_lt c.if-size-dynamic.true b)
