@@ -1,6 +1,7 @@
 // The commit of a step: it only writes, and cannot fail. One word, two words, words of the pool or a mark, into one session's region of the memory.
 // Above: `machine`, which commits what was judged; below: the definition's `written`, and parts of a memory.
 #![tactic(auto)]
+
 ghost use Rattle.std.specs.Prelude.{◌≡◌, [], ◌∷◌, ◌+◌, ◌-◌, ◌≤◌, ◌<◌, length, set, eqb};
 ghost use Rattle.basis.specs.Part.{part, splice};
 ghost use Rattle.pmachine.specs.Pool.{words_from, on_top};

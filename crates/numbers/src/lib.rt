@@ -1,6 +1,7 @@
 // A word as a decimal number.
 // Above it: the console. Below it: nothing.
 #![tactic(auto)]
+
 ghost use Rattle.std.specs.Prelude.{◌≡◌, ◌-◌};
 ghost use Rattle.numbers.specs.Numbers.{digit_byte, all_digits, value_from, fitted, number_of};
 

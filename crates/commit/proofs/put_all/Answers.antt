@@ -24,7 +24,7 @@ loop-left-preserved c =
     let l = turn.loop-left in
     let t = c.put in (
       omega (arith, l.invariant.0),
-      t.auto.0 ∙ l.invariant.1,
+      t.auto.region ∙ l.invariant.1,
       one_pushed _ a.seg.now a.region.now a.first a.n a.top l.left _ l.region _ c.loop-left-test.true
           l.invariant.0 start.requires.0 c.word_at-v.ensures l.invariant.2 t.ensures,
     )

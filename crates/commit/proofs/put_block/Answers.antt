@@ -10,7 +10,7 @@ unfolding part splice
 returns-then-sex-eq0 c =
     let tested = c in
     let a = tested.args in
-    rw (c.put_all_lem.ensures, part_all a.seg.now, eq-eqb _ _ tested.if-sex-eq0.true) refl
+    rw (c.put_all.ensures, part_all a.seg.now, eq-eqb _ _ tested.if-sex-eq0.true) refl
 
 pub returns-else-sex-eq0 : goal.returns-else-sex-eq0
 unfolding part splice

@@ -1,6 +1,5 @@
 -- `value` is the value of digits, or that it is too large. The invariant: the value is that of what is left, after what was passed.
 -- The measure is what is left of the slice. Assumes nothing.
-use Prim.Native.Nat.{◌-◌}
 use native.Mathlib.Omega.{arith}
 use borrow.Author.Rules.{rules}
 use Rattle.numbers.proofs.Values.{fits, value_ends, value_goes, value_stops}
