@@ -1,6 +1,7 @@
 // One step of a ready session, on a memory that holds the shared words and the session's region: judged with reads alone, then committed.
 // Above: `machine`, whose turn is many of them; below: `judge`, which only reads, `commit`, which only writes, and the place of a fault in `instruction`.
 #![tactic(auto)]
+
 ghost use Rattle.std.specs.Prelude.{◌≡◌, take};
 ghost use Rattle.basis.specs.Part.{part};
 ghost use Rattle.pmachine.specs.Step.{judge};
