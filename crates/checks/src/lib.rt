@@ -1,6 +1,7 @@
 // The verdict on a segment: checks 1 to 5, then 6, 7 and 8 of each routine in turn.
 // Below: the numbers of a segment, and what each check asks. Above: loading, turning, and the soundness of the bench, which judges every loaded slot.
 #![tactic(auto)]
+
 ghost use Rattle.std.specs.Prelude.{◌≡◌, cond, ◌&&◌, ◌||◌, ◌+◌, ◌<◌, ltb, eqb};
 ghost use Rattle.basis.specs.Bools.{inside};
 ghost use Rattle.segment.specs.Head.{words, least, dict, count, shape_ok, sex_ok};

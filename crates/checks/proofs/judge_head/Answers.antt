@@ -16,7 +16,7 @@ returns c =
       c.checked-v4.ensures,
       c.pool_ok.ensures,
       c.checked-v5.ensures,
-      c.Dict-ok.ensures,
+      c.dict_ok.ensures,
       c.word_at-first.ensures,
       c.head-h.ensures,
     )

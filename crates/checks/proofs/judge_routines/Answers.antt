@@ -2,7 +2,6 @@
 -- the verdict on all. Assumes nothing.
 use mathlib.Core.Path.{◌≡◌, sym, ap, ◌∙◌}
 use Prim.Native.Nat.{◌-◌}
-use borrow.Author.Tests.{not-true, not-false}
 use native.Mathlib.Omega.{arith}
 use Rattle.segment.specs.Head.{count}
 use Rattle.segment.specs.declared.Segment.{Segment}
@@ -29,12 +28,12 @@ returns-then-not-routine_passes c =
     let passes = c in
     let test = passes in
     c.judge_routine.ensures
-    ∙ sym (test.loop-k.invariant.1 ∙ judge_stop _ _ _ test.loop-k-test.true (sym passes.routine_passes.ensures ∙ not-true _ c.if-not-routine_passes.true))
+    ∙ sym (test.loop-k.invariant.1 ∙ judge_stop _ _ _ test.loop-k-test.true (sym passes.routine_passes.ensures ∙ c.if-not-routine_passes.true))
 
 pub loop-k-preserved : goal.loop-k-preserved
 loop-k-preserved c =
     let test = c in
-    (omega arith, test.loop-k.invariant.1 ∙ judge_step _ _ _ test.loop-k-test.true (sym c.routine_passes.ensures ∙ not-false _ c.if-not-routine_passes.false))
+    (omega arith, test.loop-k.invariant.1 ∙ judge_step _ _ _ test.loop-k-test.true (sym c.routine_passes.ensures ∙ c.if-not-routine_passes.false))
 
 pub returns : goal.returns
 returns c = sym (c.loop-k.invariant.1 ∙ judge_done _ _ _ c.loop-k-test.false)
