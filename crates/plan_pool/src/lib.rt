@@ -1,6 +1,7 @@
 // Words of the constant pool: those that LDC pushes, and XJP's table, by which an index chooses a byte of the code.
 // Above: `judge`; below: `plan`, the jump of `plan_calls`, and the words of a segment.
 #![tactic(auto)]
+
 ghost use Rattle.std.specs.Prelude.{◌≡◌, List, ℕ, ◌≤◌};
 ghost use Rattle.pmachine.specs.Sound.{Loaded};
 ghost use Rattle.plan.specs.Answer.{regs_of, outcome_of};
