@@ -1,6 +1,7 @@
 // Every entry point once more: each function calls one entry and states its contract again, so that a contract that is weakened below breaks the
 // build here. Nobody calls them. What is promised of the definitions that they name is the record in specs/Demands. Below: every layer.
 #![tactic(auto)]
+
 ghost use Rattle.std.specs.Prelude.{◌≡◌, ℕ, ◌-◌, ◌≤◌, ◌<◌, length, get_or};
 ghost use Rattle.basis.specs.Checks.{is_passed, ruling};
 ghost use Rattle.operand.specs.Bytes.{byte_at};
