@@ -4,23 +4,23 @@ ghost use Rattle.std.specs.Prelude.{◌<◌, ◌≤◌, length};
 
 use crate::world;
 use crate::world::World;
-use libc::STDIN_FILENO;
+use std::io::Read;
 use text::front;
 
 // An array's length is part of its type: no caller has to count a million words.
-pub fn run(memory: &mut [u16; 1048580], store: &mut [u8; 262144]) {
+pub fn run(rt: &HostRuntime, memory: &mut [u16; 1048580], store: &mut [u8; 262144]) {
     let mut room = io::large_buffer();
-    pieces(memory, store, &mut room);
+    pieces(rt, memory, store, &mut room);
 }
 
 // A proved loop has to end, and nothing says that the input does. So the loop counts its turns down, from a number that
 // no run uses up. What stands in room after the last piece is a line without an end.
-fn pieces(memory: &mut [u16], store: &mut [u8], room: &mut [u8]) {
+fn pieces(rt: &HostRuntime, memory: &mut [u16], store: &mut [u8], room: &mut [u8]) {
     let mut w = world::no_world();
     let mut have: usize = 0;
     let mut turns = u64::MAX;
     while turns > 0 {
-        let n = more(room, have);
+        let n = more(rt, room, have);
         let used = last_end(front(room, n));
         w = lines(w, memory, store, front(room, used));
         turns = fewer(turns, n == have);
@@ -41,18 +41,17 @@ fn fewer(turns: u64, none: bool) -> u64
 }
 
 // One read, after the first have bytes of room. Answers how many stand there now: no more where the input ends or cannot be read.
-fn more(room: &mut [u8], have: usize) -> usize {
+fn more(rt: &HostRuntime, room: &mut [u8], have: usize) -> usize {
     if have < room.len() {
-        return have + read_some(&mut room[have..]);
+        return have + read_some(rt, &mut room[have..]);
     }
     have
 }
 
-fn read_some(part: &mut [u8]) -> usize
+fn read_some(rt: &HostRuntime, part: &mut [u8]) -> usize
     ensures { result ≤ length part.old }
 {
-    let got = libc::read(STDIN_FILENO, part);
-    io::count(got, part)
+    rt.stdin().read(part).unwrap_or(0)
 }
 
 // Where the bytes after the last line's end begin.

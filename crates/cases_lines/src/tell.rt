@@ -1,6 +1,8 @@
 // An answer: a letter, numbers in hexadecimal without zeros in front, digests with eight digits.
 // Above it: the requests. Below it: `io`. No contract can say what is written, so none here does.
-use libc::STDOUT_FILENO;
+
+// The descriptor of standard output.
+const STDOUT: i32 = 1;
 
 fn put(out: &mut [u8], at: usize, b: u8) -> usize {
     if at < out.len() {
@@ -49,5 +51,5 @@ fn put_line(out: &mut [u8], letter: u8, numbers: &[u64], digests: &[u64]) -> usi
 pub fn tell(letter: u8, numbers: &[u64], digests: &[u64]) {
     let mut out = [0u8; 320];
     let n = put_line(&mut out, letter, numbers, digests);
-    io::write_all(STDOUT_FILENO, text::front(&out, n));
+    io::write_all(STDOUT, text::front(&out, n));
 }

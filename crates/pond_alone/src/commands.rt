@@ -10,19 +10,19 @@ use pond_words::{Given, forms, numbers_at};
 use text::{piece, same};
 
 // Follows the command on the tape, with n words behind its verb.
-pub fn follow(form: u8, tape: &[u8], n: u8) -> Outcome {
+pub fn follow(rt: &HostRuntime, form: u8, tape: &[u8], n: u8) -> Outcome {
     if !forms::fits(form, n) {
         return unfit(form, n);
     }
     match form {
-        forms::CHECK => pond_segments::check(row(tape, 1)),
-        forms::LIST => list(tape, n),
-        forms::TURN_FILE => pond_segments::turn(row(tape, 1), row(tape, 2)),
-        forms::RUN => run(tape, n),
+        forms::CHECK => pond_segments::check(rt, row(tape, 1)),
+        forms::LIST => list(rt, tape, n),
+        forms::TURN_FILE => pond_segments::turn(rt, row(tape, 1), row(tape, 2)),
+        forms::RUN => run(rt, tape, n),
         forms::HELP => help(row(tape, 1)),
         forms::KEEP => keep(tape, n),
         forms::DEMO => {
-            pond_demo::demo();
+            pond_demo::demo(rt);
             Outcome::Done
         }
         forms::VERSION => {
@@ -51,38 +51,38 @@ fn help(command: &[u8]) -> Outcome {
 }
 
 // All of a listing, or a part of it.
-fn list(tape: &[u8], n: u8) -> Outcome {
+fn list(rt: &HostRuntime, tape: &[u8], n: u8) -> Outcome {
     if n == 1 {
-        return pond_segments::list(row(tape, 1));
+        return pond_segments::list(rt, row(tape, 1));
     }
     if n == 3 {
         let k = numbers::number_of(row(tape, 3));
         if let Number::Value(k) = k {
-            return part(row(tape, 1), row(tape, 2), k);
+            return part(rt, row(tape, 1), row(tape, 2), k);
         }
     }
     expected(forms::LIST)
 }
 
-fn part(file: &[u8], which: &[u8], k: u64) -> Outcome {
+fn part(rt: &HostRuntime, file: &[u8], which: &[u8], k: u64) -> Outcome {
     if same(which, b"routine") {
-        return pond_parts::list_part(file, Part::Routine(k));
+        return pond_parts::list_part(rt, file, Part::Routine(k));
     }
     if same(which, b"near") {
-        return pond_parts::list_part(file, Part::Near(k));
+        return pond_parts::list_part(rt, file, Part::Near(k));
     }
     expected(forms::LIST)
 }
 
 // `run FILE [WORDS [STEPS]] [with ARCHIVE [for FARM]]`, where n words stand behind its verb. No tape has word 8: then there is no archive.
-fn run(tape: &[u8], n: u8) -> Outcome {
+fn run(rt: &HostRuntime, tape: &[u8], n: u8) -> Outcome {
     if with_at(tape, less(n, 3)) {
-        return run_for(tape, n);
+        return run_for(rt, tape, n);
     }
     if with_at(tape, less(n, 1)) {
-        return sized(tape, less(n, 3), row(tape, n as usize), View::All);
+        return sized(rt, tape, less(n, 3), row(tape, n as usize), View::All);
     }
-    sized(tape, less(n, 1), row(tape, 8), View::All)
+    sized(rt, tape, less(n, 1), row(tape, 8), View::All)
 }
 
 // Whether word k is `with`, behind FILE.
@@ -93,14 +93,14 @@ fn with_at(tape: &[u8], k: u8) -> bool {
     same(row(tape, k as usize), b"with")
 }
 
-fn run_for(tape: &[u8], n: u8) -> Outcome {
+fn run_for(rt: &HostRuntime, tape: &[u8], n: u8) -> Outcome {
     if !forms::stands(tape, n, 1, b"for") {
         return expected(forms::RUN);
     }
     let f = pond_words::farm(row(tape, n as usize), forms::RUN);
     if f.ok {
         let view = View::Farm((f.value % 65536) as u16);
-        return sized(tape, less(n, 5), row(tape, less(n, 2) as usize), view);
+        return sized(rt, tape, less(n, 5), row(tape, less(n, 2) as usize), view);
     }
     Outcome::Typing
 }
@@ -113,13 +113,13 @@ fn less(n: u8, by: u8) -> u8 {
 }
 
 // The same, where so many of WORDS and STEPS are given.
-fn sized(tape: &[u8], count: u8, archive: &[u8], view: View) -> Outcome {
+fn sized(rt: &HostRuntime, tape: &[u8], count: u8, archive: &[u8], view: View) -> Outcome {
     if 2 < count {
         return expected(forms::RUN);
     }
     let p = numbers_at(forms::RUN, tape, 2, count);
     if p.ok {
-        return pond_run::run(row(tape, 1), size(p), archive, view);
+        return pond_run::run(rt, row(tape, 1), size(p), archive, view);
     }
     Outcome::Typing
 }

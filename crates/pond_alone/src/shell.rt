@@ -8,14 +8,14 @@ use pond_typed::Cut;
 use pond_words::forms;
 
 // The program's arguments are one command.
-pub fn arguments() {
+pub fn arguments(rt: &HostRuntime) {
     let mut tape = pond_rows::tape();
-    let c = pond_typed::arguments(&mut tape);
-    let o = asked(&tape, c);
+    let c = pond_typed::arguments(rt, &mut tape);
+    let o = asked(rt, &tape, c);
     pond_say::leave(pond_say::status(o));
 }
 
-fn asked(tape: &[u8], c: Cut) -> Outcome {
+fn asked(rt: &HostRuntime, tape: &[u8], c: Cut) -> Outcome {
     if c.unclosed {
         return Outcome::Typing;
     }
@@ -27,7 +27,7 @@ fn asked(tape: &[u8], c: Cut) -> Outcome {
     if forms::on_bench(form) {
         return no_bench(row(tape, 0));
     }
-    follow(form, tape, behind(c.words))
+    follow(rt, form, tape, behind(c.words))
 }
 
 // A bench is the console's. A command on it that is given in the shell would find a new one, and leave nothing.

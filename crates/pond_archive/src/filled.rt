@@ -9,12 +9,18 @@ use sound::Bench;
 use text::front;
 
 // The file must have a record for each four shared words: else the rest of the archive would be something else.
-pub fn records(b: Bench, memory: &mut [u16], book: &[u8], file: &[u8]) -> Outcome {
+pub fn records(
+    rt: &HostRuntime,
+    b: Bench,
+    memory: &mut [u16],
+    book: &[u8],
+    file: &[u8],
+) -> Outcome {
     if pond_windows::held(b, book) {
         return Outcome::Typing;
     }
     let mut bytes = io::large_buffer();
-    let s = sheets::read(file, &mut bytes);
+    let s = sheets::read(rt, file, &mut bytes);
     if !s.ok {
         return Outcome::File;
     }
@@ -59,9 +65,16 @@ fn most(a: usize, b: usize) -> usize {
     a
 }
 
-pub fn bench_of(b: Bench, memory: &mut [u16], book: &mut [u8], n: u64, file: &[u8]) -> Next {
+pub fn bench_of(
+    rt: &HostRuntime,
+    b: Bench,
+    memory: &mut [u16],
+    book: &mut [u8],
+    n: u64,
+    file: &[u8],
+) -> Next {
     let mut bytes = io::large_buffer();
-    let s = sheets::read(file, &mut bytes);
+    let s = sheets::read(rt, file, &mut bytes);
     if !s.ok {
         return Next {
             bench: b,

@@ -13,9 +13,9 @@ fn space() -> [u8; 524289] {
 }
 
 // The file's records into bytes, eight bytes each; where it is not ok, it has been said why not.
-pub fn read(file: &[u8], bytes: &mut [u8]) -> Sheet {
+pub fn read(rt: &HostRuntime, file: &[u8], bytes: &mut [u8]) -> Sheet {
     let mut room = space();
-    let got = pond_files::read(file, &mut room);
+    let got = pond_files::read(rt, file, &mut room);
     if !got.ok {
         return none();
     }

@@ -23,6 +23,7 @@ pub struct Went {
 
 // A turn of no steps is refused where any turn is.
 pub fn turn(
+    rt: &HostRuntime,
     b: Bench,
     memory: &mut [u16],
     store: &[u8],
@@ -34,7 +35,7 @@ pub fn turn(
     let out = bench::turn(b, memory, store, i, 0);
     let answer = out.answer;
     match answer {
-        Answer::Done(_) => turned(b, memory, store, book, i, steps),
+        Answer::Done(_) => turned(rt, b, memory, store, book, i, steps),
         Answer::Refused(number, place) => Next {
             bench: b,
             outcome: refusals::of_session(number, place, session),
@@ -42,8 +43,16 @@ pub fn turn(
     }
 }
 
-fn turned(b: Bench, memory: &mut [u16], store: &[u8], book: &[u8], i: usize, steps: u64) -> Next {
-    let went = all(b, memory, store, i, steps);
+fn turned(
+    rt: &HostRuntime,
+    b: Bench,
+    memory: &mut [u16],
+    store: &[u8],
+    book: &[u8],
+    i: usize,
+    steps: u64,
+) -> Next {
+    let went = all(rt, b, memory, store, i, steps);
     let after = went.bench;
     let se = told::record(after, i);
     ended(book, i, went.steps, se);
@@ -52,13 +61,13 @@ fn turned(b: Bench, memory: &mut [u16], store: &[u8], book: &[u8], i: usize, ste
     let outcome = faults::reason(after, memory, store, se, seen);
     Next {
         bench: after,
-        outcome: stopped(outcome),
+        outcome: stopped(rt, outcome),
     }
 }
 
 // A turn that Ctrl-C has ended says so. The mark stays for the console.
-pub fn stopped(o: Outcome) -> Outcome {
-    if pond_say::interrupted() {
+pub fn stopped(rt: &HostRuntime, o: Outcome) -> Outcome {
+    if pond_say::interrupted(rt) {
         pond_say::text(b"stopped by Ctrl-C after these steps; another turn goes on from there\n");
         return Outcome::Outside;
     }
@@ -79,7 +88,14 @@ pub fn ended(book: &[u8], i: usize, steps: u64, se: Session) {
 }
 
 // Turns, one after another, until the steps are done or the session does none.
-pub fn all(b: Bench, memory: &mut [u16], store: &[u8], i: usize, steps: u64) -> Went {
+pub fn all(
+    rt: &HostRuntime,
+    b: Bench,
+    memory: &mut [u16],
+    store: &[u8],
+    i: usize,
+    steps: u64,
+) -> Went {
     let mut bench = b;
     let mut left = steps;
     let mut done: u64 = 0;
@@ -87,7 +103,7 @@ pub fn all(b: Bench, memory: &mut [u16], store: &[u8], i: usize, steps: u64) -> 
         let went = one(bench, memory, store, i, share(left, done));
         bench = went.bench;
         let n = went.steps;
-        left = rest(left, n);
+        left = rest(rt, left, n);
         done = sum(done, n);
         milestone(done, n);
     }
@@ -121,7 +137,7 @@ fn least(a: u64, b: u64) -> u64 {
 }
 
 // The steps that are left after a turn that did n: none after a turn that did none, since the session has stopped, and none after Ctrl-C.
-fn rest(left: u64, n: u64) -> u64
+fn rest(rt: &HostRuntime, left: u64, n: u64) -> u64
     ensures { result ≤ left - 1 }
 {
     if n == 0 {
@@ -130,7 +146,7 @@ fn rest(left: u64, n: u64) -> u64
     if left < n {
         return 0;
     }
-    if pond_say::interrupted() {
+    if pond_say::interrupted(rt) {
         return 0;
     }
     left - n

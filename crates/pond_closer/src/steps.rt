@@ -18,6 +18,7 @@ struct Stepped {
 }
 
 pub fn step(
+    rt: &HostRuntime,
     b: Bench,
     memory: &mut [u16],
     store: &[u8],
@@ -33,7 +34,7 @@ pub fn step(
             outcome: refusals::of_session(12, 0, session),
         };
     }
-    let bench = all(b, memory, store, i, steps);
+    let bench = all(rt, b, memory, store, i, steps);
     let after = told::record(bench, i);
     told::session(book, i);
     pond_say::text(b": ");
@@ -42,7 +43,7 @@ pub fn step(
     let o = faults::reason(bench, memory, store, after, seen);
     Next {
         bench,
-        outcome: turns::stopped(o),
+        outcome: turns::stopped(rt, o),
     }
 }
 
@@ -53,19 +54,26 @@ fn ended(se: Session) {
     pond_say::end();
 }
 
-fn all(b: Bench, memory: &mut [u16], store: &[u8], i: usize, steps: u64) -> Bench {
+fn all(
+    rt: &HostRuntime,
+    b: Bench,
+    memory: &mut [u16],
+    store: &[u8],
+    i: usize,
+    steps: u64,
+) -> Bench {
     let mut bench = b;
     let mut left = steps;
     while left > 0 {
         let went = one(bench, memory, store, i);
         bench = went.bench;
-        left = rest(left, went.done);
+        left = rest(rt, left, went.done);
     }
     bench
 }
 
 // One less, and none where no step was done or Ctrl-C was pressed.
-fn rest(left: u64, done: bool) -> u64
+fn rest(rt: &HostRuntime, left: u64, done: bool) -> u64
     ensures { result ≤ left - 1 }
 {
     if !done {
@@ -74,7 +82,7 @@ fn rest(left: u64, done: bool) -> u64
     if left == 0 {
         return 0;
     }
-    if pond_say::interrupted() {
+    if pond_say::interrupted(rt) {
         return 0;
     }
     left - 1

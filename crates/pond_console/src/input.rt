@@ -2,13 +2,13 @@
 // Above it: the program. Below it: a line heard, and the commands.
 ghost use Rattle.std.specs.Prelude.{◌-◌, ◌≤◌};
 
-use libc::STDIN_FILENO;
 use pond_lines::heard::Heard;
 use pond_lines::{heard, stops};
 use pond_look::Next;
 use pond_say::Outcome;
 use pond_words::forms;
 use sound::Bench;
+use std::io::IsTerminal;
 
 // The bench after a line, what a script goes on after from there on, the line's status, and whether another line may follow.
 #[derive(Clone, Copy)]
@@ -36,15 +36,22 @@ fn first_bench() -> Bench {
 }
 
 // The lines of standard input, on one bench after another. A person's failures are no failures of the console.
-pub fn script() {
+pub fn script(rt: &HostRuntime) {
     let mut memory = words();
     let mut store = bytes();
     let mut book = pond_rows::book();
-    let typed = libc::isatty(STDIN_FILENO) == 1;
+    let typed = rt.stdin().is_terminal();
     if typed {
         pond_typed::welcome();
     }
-    let status = lines(first_bench(), &mut memory, &mut store, &mut book, typed);
+    let status = lines(
+        rt,
+        first_bench(),
+        &mut memory,
+        &mut store,
+        &mut book,
+        typed,
+    );
     if typed {
         pond_say::end();
     }
@@ -53,13 +60,20 @@ pub fn script() {
 
 // A proved loop has to end, and nothing says that the input does. So the loop counts its turns
 // down, from a number that no run uses up. The status is that of the gravest failure.
-fn lines(b: Bench, memory: &mut [u16], store: &mut [u8], book: &mut [u8], typed: bool) -> u8 {
+fn lines(
+    rt: &HostRuntime,
+    b: Bench,
+    memory: &mut [u16],
+    store: &mut [u8],
+    book: &mut [u8],
+    typed: bool,
+) -> u8 {
     let mut bench = b;
     let mut keep: u8 = 0;
     let mut status: u8 = 0;
     let mut turns = u64::MAX;
     while turns > 0 {
-        let after = one_line(bench, memory, store, book, typed, keep, turns);
+        let after = one_line(rt, bench, memory, store, book, typed, keep, turns);
         bench = after.bench;
         keep = after.keep;
         status = stops::worse(status, after.status);
@@ -83,6 +97,7 @@ fn fewer(turns: u64, more: bool) -> u64
 
 // Reads a line, follows it, and answers whether another may come. So many turns of the loop are left.
 fn one_line(
+    rt: &HostRuntime,
     b: Bench,
     memory: &mut [u16],
     store: &mut [u8],
@@ -92,11 +107,11 @@ fn one_line(
     left: u64,
 ) -> After {
     let mut tape = pond_rows::tape();
-    let h = heard::line(typed, &mut tape, keep);
-    let next = obeyed(b, memory, store, book, &tape, h);
+    let h = heard::line(rt, typed, &mut tape, keep);
+    let next = obeyed(rt, b, memory, store, book, &tape, h);
     let bench = next.bench;
     let outcome = next.outcome;
-    let s = stops::settled(outcome, typed, h.keep, left, h.more);
+    let s = stops::settled(rt, outcome, typed, h.keep, left, h.more);
     After {
         bench,
         keep: h.keep,
@@ -106,6 +121,7 @@ fn one_line(
 }
 
 fn obeyed(
+    rt: &HostRuntime,
     b: Bench,
     memory: &mut [u16],
     store: &mut [u8],
@@ -114,21 +130,21 @@ fn obeyed(
     h: Heard,
 ) -> Next {
     if forms::on_bench(h.form) {
-        return pond_deeds::follow(h.form, b, memory, store, book, tape, h.n);
+        return pond_deeds::follow(rt, h.form, b, memory, store, book, tape, h.n);
     }
     Next {
         bench: b,
-        outcome: apart(h, tape),
+        outcome: apart(rt, h, tape),
     }
 }
 
 // A command that needs no bench, or a line that is none.
-fn apart(h: Heard, tape: &[u8]) -> Outcome {
+fn apart(rt: &HostRuntime, h: Heard, tape: &[u8]) -> Outcome {
     let form = h.form;
     match form {
         heard::NOTHING => Outcome::Done,
         heard::WRONG => Outcome::Typing,
         heard::FAILED => Outcome::File,
-        _ => pond_alone::follow(form, tape, h.n),
+        _ => pond_alone::follow(rt, form, tape, h.n),
     }
 }

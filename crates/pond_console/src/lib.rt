@@ -8,3 +8,4 @@ mod input;
 
 pub use input::script;
 pub use pond_alone::arguments;
+pub use pond_typed::arg_count;

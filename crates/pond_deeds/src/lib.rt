@@ -10,6 +10,7 @@ use sound::Bench;
 // The command on the tape, with n words behind its verb. A new bench is made over all of the memory, and every other command is lent the
 // bench's own words.
 pub fn follow(
+    rt: &HostRuntime,
     form: u8,
     b: Bench,
     memory: &mut [u16],
@@ -23,11 +24,11 @@ pub fn follow(
         return pond_slots::new_bench(b, memory, book, n, s);
     }
     if let Deed::BenchOf(n) = d {
-        return pond_archive::bench_of(b, memory, book, n, row(tape, 3));
+        return pond_archive::bench_of(rt, b, memory, book, n, row(tape, 3));
     }
     let words = b.n;
     if words <= memory.len() {
-        return lent(d, b, &mut memory[0..words], store, book, tape);
+        return lent(rt, d, b, &mut memory[0..words], store, book, tape);
     }
     kept(b, Outcome::Done)
 }
@@ -38,6 +39,7 @@ fn kept(bench: Bench, outcome: Outcome) -> Next {
 }
 
 fn lent(
+    rt: &HostRuntime,
     d: Deed,
     b: Bench,
     memory: &mut [u16],
@@ -47,20 +49,20 @@ fn lent(
 ) -> Next {
     match d {
         Deed::Load(slot) => {
-            pond_slots::load(b, memory, store, book, slot, row(tape, 8), row(tape, 2))
+            pond_slots::load(rt, b, memory, store, book, slot, row(tape, 8), row(tape, 2))
         }
         Deed::LoadNamed => {
-            pond_slots::load_named(b, memory, store, book, row(tape, 1), row(tape, 2))
+            pond_slots::load_named(rt, b, memory, store, book, row(tape, 1), row(tape, 2))
         }
         Deed::Open(_, _, _) | Deed::OpenFor(_, _, _, _) | Deed::OpenWindow(_, _, _, _, _) => {
             opened(d, b, memory, store, book, tape)
         }
-        Deed::Turn(s, steps) => pond_bench::turn(b, memory, store, book, s, steps),
+        Deed::Turn(s, steps) => pond_bench::turn(rt, b, memory, store, book, s, steps),
         Deed::Close(s) => pond_bench::close(b, memory, store, book, s),
-        Deed::Step(s, steps) => pond_closer::step(b, memory, store, book, s, steps),
-        Deed::Fill => kept(b, pond_slots::fill(b, memory, book, row(tape, 1))),
-        Deed::Records => kept(b, pond_archive::records(b, memory, book, row(tape, 1))),
-        _ => kept(b, seen(d, b, memory, store, book, row(tape, 2))),
+        Deed::Step(s, steps) => pond_closer::step(rt, b, memory, store, book, s, steps),
+        Deed::Fill => kept(b, pond_slots::fill(rt, b, memory, book, row(tape, 1))),
+        Deed::Records => kept(b, pond_archive::records(rt, b, memory, book, row(tape, 1))),
+        _ => kept(b, seen(rt, d, b, memory, store, book, row(tape, 2))),
     }
 }
 
@@ -88,14 +90,22 @@ fn opened(
 }
 
 // The commands that change nothing. The last word is the file of one that writes it.
-fn seen(d: Deed, b: Bench, memory: &[u16], store: &[u8], book: &[u8], file: &[u8]) -> Outcome {
+fn seen(
+    rt: &HostRuntime,
+    d: Deed,
+    b: Bench,
+    memory: &[u16],
+    store: &[u8],
+    book: &[u8],
+    file: &[u8],
+) -> Outcome {
     match d {
         Deed::Show(s) => shown(b, memory, store, book, s),
         Deed::Words(s, p) => pond_bench::words(b, memory, book, s, wanted(p)),
         Deed::Shared(p) => pond_bench::shared(b, memory, wanted(p)),
         Deed::Archive => pond_archive::archive(b, memory, store),
         Deed::Farm(farm) => pond_archive::farm(b, memory, store, farm),
-        Deed::Save(s) => pond_save::save(b, memory, book, s, file),
+        Deed::Save(s) => pond_save::save(rt, b, memory, book, s, file),
         Deed::Map => {
             pond_bench::map(b, book);
             Outcome::Done

@@ -11,32 +11,39 @@ use pond_slots::loads;
 use sound::Bench;
 use text::front;
 
-pub fn demo() {
+pub fn demo(rt: &HostRuntime) {
     let mut memory = [0u16; 250];
     let mut book = pond_rows::book();
     let store = bytes::STORE;
     let out = bench::new_bench(0, 0);
-    shown(out.bench, &mut memory, &mut book, &store);
+    shown(rt, out.bench, &mut memory, &mut book, &store);
 }
 
-fn shown(b: Bench, memory: &mut [u16], book: &mut [u8], store: &[u8]) {
+fn shown(rt: &HostRuntime, b: Bench, memory: &mut [u16], book: &mut [u8], store: &[u8]) {
     let mut bench = b;
     let mut k: u8 = 0;
     while k < 26 {
         lines::say(k);
-        bench = done(bench, memory, book, store, k);
+        bench = done(rt, bench, memory, book, store, k);
         k += 1;
     }
 }
 
 // What line k asks.
-fn done(b: Bench, memory: &mut [u16], book: &mut [u8], store: &[u8], k: u8) -> Bench {
+fn done(
+    rt: &HostRuntime,
+    b: Bench,
+    memory: &mut [u16],
+    book: &mut [u8],
+    store: &[u8],
+    k: u8,
+) -> Bench {
     match k {
         0 => made(b, memory, book),
         2 | 3 | 12 | 18 | 21 => loaded(b, memory, store, book, slot_of(k)),
         13 => open_all(b, memory, store, book, k),
         4 | 5 | 16 | 19 | 22 => open_for(b, memory, store, book, k),
-        6..=9 | 14 | 17 | 20 | 23 => ran(b, memory, store, book, k),
+        6..=9 | 14 | 17 | 20 | 23 => ran(rt, b, memory, store, book, k),
         _ => {
             seen(b, memory, store, book, k);
             b
@@ -162,7 +169,14 @@ fn farm(k: u8) -> u16 {
     12
 }
 
-fn ran(b: Bench, memory: &mut [u16], store: &[u8], book: &[u8], k: u8) -> Bench {
-    let next = pond_bench::turn(b, memory, store, book, whose(k) as u64, steps(k));
+fn ran(
+    rt: &HostRuntime,
+    b: Bench,
+    memory: &mut [u16],
+    store: &[u8],
+    book: &[u8],
+    k: u8,
+) -> Bench {
+    let next = pond_bench::turn(rt, b, memory, store, book, whose(k) as u64, steps(k));
     next.bench
 }

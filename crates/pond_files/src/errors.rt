@@ -2,6 +2,33 @@
 // Above it: the commands on files. Below it: how the console speaks.
 use text::line;
 
+// The system's numbers of the errors that have a sentence.
+const EPERM: i32 = 1;
+
+pub const ENOENT: i32 = 2;
+
+pub const EIO: i32 = 5;
+
+const EBADF: i32 = 9;
+
+const EACCES: i32 = 13;
+
+const EEXIST: i32 = 17;
+
+const ENOTDIR: i32 = 20;
+
+const EISDIR: i32 = 21;
+
+pub const EINVAL: i32 = 22;
+
+const EFBIG: i32 = 27;
+
+const ENOSPC: i32 = 28;
+
+const EROFS: i32 = 30;
+
+pub const ENAMETOOLONG: i32 = 36;
+
 // The last line of a command that failed on a file, as `cannot read NAME: why`.
 pub fn cannot(what: &[u8], path: &[u8], error: i32) {
     pond_say::text(what);
@@ -46,18 +73,18 @@ fn why(error: i32) {
 // Which line of that page has the error's sentence; line 0, which is empty, where none has.
 fn known(error: i32) -> u8 {
     match error {
-        libc::EPERM | libc::EACCES => 1,
-        libc::ENOENT => 2,
-        libc::EBADF => 3,
-        libc::EEXIST => 4,
-        libc::ENOTDIR => 5,
-        libc::EISDIR => 6,
-        libc::EINVAL => 7,
-        libc::ENOSPC => 8,
-        libc::EFBIG => 9,
-        libc::EIO => 10,
-        libc::EROFS => 11,
-        libc::ENAMETOOLONG => 12,
+        EPERM | EACCES => 1,
+        ENOENT => 2,
+        EBADF => 3,
+        EEXIST => 4,
+        ENOTDIR => 5,
+        EISDIR => 6,
+        EINVAL => 7,
+        ENOSPC => 8,
+        EFBIG => 9,
+        EIO => 10,
+        EROFS => 11,
+        ENAMETOOLONG => 12,
         _ => 0,
     }
 }

@@ -1,11 +1,14 @@
-// What may be written: a name that is not taken, and a regular file; never a link, a folder, a device or a pipe. The kit's `stat` fills a struct
-// through a reference, which no proof covers, so the system is asked in another way, and the answer is judged by one function.
-// Above it: the writing. Below it: `os` and `libc`.
+// What may be written: a name that is not taken, and a regular file; never a link, a folder, a device or a pipe. The system is asked, and the
+// answer is judged by one function.
+// Above it: the writing. Below it: `std`.
 ghost use Rattle.std.specs.Prelude.{◌≡◌, ◌&&◌, not};
-ghost use Rattle.libc.specs.Io.{Ended};
 
-use crate::reads::failure;
-use libc::PATH_MAX;
+use crate::errors::ENOENT;
+use crate::reads::{failure, name};
+use std::fs;
+use std::fs::{File, OpenOptions};
+use std::io;
+use std::io::{Seek, SeekFrom};
 
 // What is done about a name.
 #[derive(Clone, Copy)]
@@ -18,15 +21,20 @@ pub enum Place {
 }
 
 // A name is judged by what the system says of it: whether it is a link, with which error it is not opened (0 where it is), and whether what was opened can be cut.
-pub fn asked(path: &[u8]) -> Place {
-    let link = is_link(path);
-    let fd = os::open_update(path);
-    if fd < 0 {
-        return judged(link, failure(), false);
+pub fn asked(rt: &HostRuntime, path: &[u8]) -> Place {
+    let link = is_link(rt, path);
+    match update(rt, path) {
+        Ok(file) => judged(link, 0, can_be_cut(&file)),
+        Err(error) => judged(link, failure(error), false),
     }
-    let cuts = can_be_cut(fd);
-    libc::close(fd);
-    judged(link, 0, cuts)
+}
+
+// The file opened for reading and writing, its bytes as they are.
+pub fn update(rt: &HostRuntime, path: &[u8]) -> io::Result<File> {
+    OpenOptions::new()
+        .read(true)
+        .write(true)
+        .open(rt, name(path))
 }
 
 fn judged(link: bool, error: i32, cuts: bool) -> Place {
@@ -38,7 +46,7 @@ fn judged(link: bool, error: i32, cuts: bool) -> Place {
     }
     match error {
         0 => Place::Other,
-        libc::ENOENT => Place::New,
+        ENOENT => Place::New,
         _ => Place::Cannot(error),
     }
 }
@@ -57,39 +65,29 @@ fn replaced(link: bool, opened: bool, regular: bool) -> bool
 }
 
 // Only a regular file can be given a length, here the one that it has.
-fn can_be_cut(fd: i32) -> bool {
-    let size = libc::lseek(fd, 0, libc::SEEK_END);
-    if size < 0 {
-        return false;
+fn can_be_cut(mut file: &File) -> bool {
+    match file.seek(SeekFrom::End(0)) {
+        Ok(size) => file.set_len(size).is_ok(),
+        Err(_) => false,
     }
-    libc::ftruncate(fd, size) == 0
 }
 
-// Whether the name is a link: only a link has a text. A name that is too long is none.
-fn is_link(path: &[u8]) -> bool {
-    if path.len() < PATH_MAX {
-        let name = ended(path);
-        let mut room = io::buffer();
-        return libc::readlink(&name, &mut room) >= 0;
+// Whether the name is a link. A name that is too long is none.
+fn is_link(rt: &HostRuntime, path: &[u8]) -> bool {
+    match fs::symlink_metadata(rt, name(ended(path))) {
+        Ok(found) => found.is_symlink(),
+        Err(_) => false,
     }
-    false
 }
-
-const LAST: usize = PATH_MAX - 1;
 
 // The path as C reads it, up to a 0.
-fn ended(path: &[u8]) -> [u8; PATH_MAX]
-    ensures { Ended result }
-{
-    let mut name = io::buffer();
+fn ended(path: &[u8]) -> &[u8] {
     let mut i = 0;
     while i < path.len() {
-        if i >= LAST {
+        if path[i] == 0 {
             break;
         }
-        name[i] = path[i];
         i += 1;
     }
-    name[LAST] = 0;
-    name
+    &path[..i]
 }

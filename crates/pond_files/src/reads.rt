@@ -1,8 +1,10 @@
-// A whole file into a buffer, and one read of a descriptor.
-// Above it: the commands on files, and the console's lines. Below it: `os`, `io` and `libc`.
+// A whole file into a buffer, and one read of a file or of standard input.
+// Above it: the commands on files, and the console's lines. Below it: `std`.
 ghost use Rattle.std.specs.Prelude.{◌+◌, ◌≤◌, length};
 
-use crate::errors::cannot;
+use crate::errors::{EINVAL, EIO, cannot};
+use std::fs::File;
+use std::io::{Error, ErrorKind, Read};
 
 // How many bytes were read, and the error's number, or 0 where there was none.
 #[derive(Clone, Copy)]
@@ -19,8 +21,8 @@ pub struct Whole {
 }
 
 // Reads the file into room until it ends or room is full, or says why it cannot.
-pub fn read(path: &[u8], room: &mut [u8]) -> Whole {
-    let got = opened(path, room);
+pub fn read(rt: &HostRuntime, path: &[u8], room: &mut [u8]) -> Whole {
+    let got = opened(rt, path, room);
     let error = got.error;
     if error != 0 {
         cannot(b"cannot read ", path, error);
@@ -35,25 +37,30 @@ pub fn read(path: &[u8], room: &mut [u8]) -> Whole {
     }
 }
 
-fn opened(path: &[u8], room: &mut [u8]) -> Got {
-    let fd = os::open_read(path);
-    if fd < 0 {
-        return Got {
+fn opened(rt: &HostRuntime, path: &[u8], room: &mut [u8]) -> Got {
+    match File::open(rt, name(path)) {
+        Ok(mut file) => read_all(&mut file, room),
+        Err(error) => Got {
             count: 0,
-            error: failure(),
-        };
+            error: failure(error),
+        },
     }
-    let got = read_all(fd, room);
-    libc::close(fd);
-    got
 }
 
-fn read_all(fd: i32, room: &mut [u8]) -> Got
+// A path as the system takes it. Where it is not in UTF-8 it becomes a name that no file can have, so that every call on it fails.
+pub fn name(path: &[u8]) -> &str {
+    match str::from_utf8(path) {
+        Ok(text) => text,
+        Err(_) => "\0",
+    }
+}
+
+fn read_all(file: &mut File, room: &mut [u8]) -> Got
     ensures { result.count ≤ length room.old }
 {
     let mut at = 0;
     while at < room.len() {
-        let got = read_from(fd, room, at);
+        let got = read_from(file, room, at);
         let n = got.count;
         let error = got.error;
         if n == 0 {
@@ -68,33 +75,34 @@ fn read_all(fd: i32, room: &mut [u8]) -> Got
 }
 
 // One read, into room from index at on.
-fn read_from(fd: i32, room: &mut [u8], at: usize) -> Got
+fn read_from(file: &mut File, room: &mut [u8], at: usize) -> Got
     requires { at ≤ length room.old }
     ensures { at + result.count ≤ length room.old }
 {
-    read_some(fd, &mut room[at..])
+    read_some(file, &mut room[at..])
 }
 
 // One read. It answers 0 where the file ends or the read fails.
-pub fn read_some(fd: i32, part: &mut [u8]) -> Got
+pub fn read_some<R: Read>(from: &mut R, part: &mut [u8]) -> Got
     ensures { result.count ≤ length part.old }
 {
-    let got = libc::read(fd, part);
-    if got < 0 {
-        return Got {
+    match from.read(part) {
+        Ok(count) => Got { count, error: 0 },
+        Err(error) => Got {
             count: 0,
-            error: failure(),
-        };
+            error: failure(error),
+        },
     }
-    let n = io::count(got, part);
-    Got { count: n, error: 0 }
 }
 
-// Why the last call failed, which is never 0.
-pub fn failure() -> i32 {
-    let error = os::errno();
-    if error == 0 {
-        return libc::EIO;
+// The system's number of an error, which is never 0. One that is not of the system is of a name that no file can have, or it stands for a failed device.
+pub fn failure(error: Error) -> i32 {
+    match error.raw_os_error() {
+        Some(0) => EIO,
+        Some(number) => number,
+        None => match error.kind() {
+            ErrorKind::InvalidInput => EINVAL,
+            _ => EIO,
+        },
     }
-    error
 }

@@ -1,16 +1,20 @@
 // A whole file written. A new one goes to a temporary name beside it and is renamed when all of it is on the disk. One that is there keeps its mode, owner
 // and links: the output goes to the temporary first, and then into the file itself; so at every moment the old file or the temporary is whole.
-// Above it: the commands on files. Below it: what may be written, `os`, `io` and `libc`.
-use crate::errors::{cannot, cannot_be};
-use crate::places::{Place, asked};
-use crate::reads::failure;
+// Above it: the commands on files. Below it: what may be written, and `std`.
+use crate::errors::{ENAMETOOLONG, cannot, cannot_be};
+use crate::places::{Place, asked, update};
+use crate::reads::{failure, name};
+use std::fs;
+use std::fs::{File, OpenOptions};
+use std::io;
+use std::io::{Seek, SeekFrom, Write};
 
 // Writes the file, or says why it cannot.
-pub fn write(path: &[u8], bytes: &[u8]) -> bool {
-    let p = asked(path);
+pub fn write(rt: &HostRuntime, path: &[u8], bytes: &[u8]) -> bool {
+    let p = asked(rt, path);
     match p {
-        Place::New => told(path, by_temporary(path, bytes, true)),
-        Place::Replaced => told(path, by_temporary(path, bytes, false)),
+        Place::New => told(path, by_temporary(rt, path, bytes, true)),
+        Place::Replaced => told(path, by_temporary(rt, path, bytes, false)),
         Place::Link => {
             cannot_be(path, b"it is a link; give the name of the file itself");
             false
@@ -35,111 +39,119 @@ fn told(path: &[u8], error: i32) -> bool {
 }
 
 // Answers 0, or the error's number: EEXIST where the temporary's name is taken.
-fn by_temporary(path: &[u8], bytes: &[u8], new: bool) -> i32 {
-    let mut room = io::buffer();
+fn by_temporary(rt: &HostRuntime, path: &[u8], bytes: &[u8], new: bool) -> i32 {
+    let mut room = [0u8; 4096];
     let n = text::joined(path, b".pond-new", &mut room);
     if n == 0 {
-        return libc::ENAMETOOLONG;
+        return ENAMETOOLONG;
     }
-    write_by(text::front(&room, n), path, bytes, new)
+    write_by(rt, text::front(&room, n), path, bytes, new)
 }
 
-fn write_by(temporary: &[u8], path: &[u8], bytes: &[u8], new: bool) -> i32 {
-    let fd = os::create(temporary);
-    if fd < 0 {
-        return failure();
-    }
-    let error = filled(fd, bytes);
+fn write_by(rt: &HostRuntime, temporary: &[u8], path: &[u8], bytes: &[u8], new: bool) -> i32 {
+    let error = match create(rt, temporary) {
+        Ok(file) => filled(file, bytes),
+        Err(error) => return failure(error),
+    };
     if error != 0 {
-        os::unlink(temporary);
+        unlink(rt, temporary);
         return error;
     }
     if new {
-        return renamed(temporary, path);
+        return renamed(rt, temporary, path);
     }
-    replaced(temporary, path, bytes)
+    replaced(rt, temporary, path, bytes)
 }
 
-fn renamed(temporary: &[u8], path: &[u8]) -> i32 {
-    if os::rename(temporary, path) < 0 {
-        let error = failure();
-        os::unlink(temporary);
-        return error;
+// A new file, opened for writing; an error where its name is taken.
+fn create(rt: &HostRuntime, path: &[u8]) -> io::Result<File> {
+    OpenOptions::new()
+        .write(true)
+        .create_new(true)
+        .open(rt, name(path))
+}
+
+// A temporary that cannot be removed is left.
+fn unlink(rt: &HostRuntime, temporary: &[u8]) {
+    let _ = fs::remove_file(rt, name(temporary));
+}
+
+fn renamed(rt: &HostRuntime, temporary: &[u8], path: &[u8]) -> i32 {
+    if let Err(error) = fs::rename(rt, name(temporary), name(path)) {
+        unlink(rt, temporary);
+        return failure(error);
     }
     0
 }
 
 // The temporary is removed once the file is whole, or is as it was.
-fn replaced(temporary: &[u8], path: &[u8], bytes: &[u8]) -> i32 {
-    let fd = os::open_update(path);
-    if fd < 0 {
-        let error = failure();
-        os::unlink(temporary);
-        return error;
+fn replaced(rt: &HostRuntime, temporary: &[u8], path: &[u8], bytes: &[u8]) -> i32 {
+    match update(rt, path) {
+        Ok(file) => replaced_in(rt, temporary, file, bytes),
+        Err(error) => {
+            unlink(rt, temporary);
+            failure(error)
+        }
     }
-    let error = made_room(fd, bytes);
+}
+
+fn replaced_in(rt: &HostRuntime, temporary: &[u8], file: File, bytes: &[u8]) -> i32 {
+    let error = made_room(&file, bytes);
     if error != 0 {
-        libc::close(fd);
-        os::unlink(temporary);
+        drop(file);
+        unlink(rt, temporary);
         return error;
     }
-    let error = overwritten(fd, bytes);
+    let error = overwritten(file, bytes);
     if error == 0 {
-        os::unlink(temporary);
+        unlink(rt, temporary);
     }
     error
 }
 
 // The output's room on the disk is taken at the file's end first: where there is none, the file gets its length back, and is as it was. Then the
 // writing begins at its first byte.
-fn made_room(fd: i32, bytes: &[u8]) -> i32 {
-    let size = libc::lseek(fd, 0, libc::SEEK_END);
-    if !io::write_all(fd, bytes) {
-        let error = failure();
-        libc::ftruncate(fd, size);
-        return error;
+fn made_room(mut file: &File, bytes: &[u8]) -> i32 {
+    let size = file.seek(SeekFrom::End(0)).unwrap_or(u64::MAX);
+    if let Err(error) = file.write_all(bytes) {
+        let _ = file.set_len(size);
+        return failure(error);
     }
-    if libc::lseek(fd, 0, libc::SEEK_SET) < 0 {
-        return failure();
+    match file.seek(SeekFrom::Start(0)) {
+        Ok(_) => 0,
+        Err(error) => failure(error),
     }
-    0
 }
 
 // Writes all bytes from the file's first on, and cuts off what stands behind them.
-fn overwritten(fd: i32, bytes: &[u8]) -> i32 {
-    if !io::write_all(fd, bytes) {
-        let error = failure();
-        libc::close(fd);
-        return error;
+fn overwritten(mut file: File, bytes: &[u8]) -> i32 {
+    if let Err(error) = file.write_all(bytes) {
+        return failure(error);
     }
-    let end = libc::lseek(fd, 0, libc::SEEK_CUR);
-    if libc::ftruncate(fd, end) < 0 {
-        let error = failure();
-        libc::close(fd);
-        return error;
+    match cut_here(&file) {
+        Ok(()) => settled(file),
+        Err(error) => failure(error),
     }
-    settled(fd)
 }
 
-fn filled(fd: i32, bytes: &[u8]) -> i32 {
-    if !io::write_all(fd, bytes) {
-        let error = failure();
-        libc::close(fd);
-        return error;
+// Cuts off what stands behind the place that was written last.
+fn cut_here(mut file: &File) -> io::Result<()> {
+    let end = file.seek(SeekFrom::Current(0))?;
+    file.set_len(end)
+}
+
+fn filled(mut file: File, bytes: &[u8]) -> i32 {
+    if let Err(error) = file.write_all(bytes) {
+        return failure(error);
     }
-    settled(fd)
+    settled(file)
 }
 
 // Waits until all that was written is on the disk, and closes the file. Nothing is said before it is closed: where standard
 // output was closed at the start, this file may have its number.
-fn settled(fd: i32) -> i32 {
-    if libc::fsync(fd) < 0 {
-        let error = failure();
-        libc::close(fd);
-        return error;
+fn settled(file: File) -> i32 {
+    match file.sync_all() {
+        Ok(()) => 0,
+        Err(error) => failure(error),
     }
-    if libc::close(fd) < 0 {
-        return failure();
-    }
-    0
 }

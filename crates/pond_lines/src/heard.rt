@@ -26,15 +26,15 @@ pub struct Heard {
 }
 
 // Reads a line, and puts its words onto the tape. What is not typed is shown.
-pub fn line(typed: bool, tape: &mut [u8], keep: u8) -> Heard {
+pub fn line(rt: &HostRuntime, typed: bool, tape: &mut [u8], keep: u8) -> Heard {
     if typed {
         pond_say::text(b"> ");
     }
     let mut room = io::buffer();
-    let line = pond_typed::read_line(&mut room);
+    let line = pond_typed::read_line(rt, &mut room);
     let kept = front(&room, line.count);
     if typed {
-        pond_say::forget();
+        pond_say::forget(rt);
     } else {
         echo(kept, line.more, line.over);
     }

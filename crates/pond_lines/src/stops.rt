@@ -10,15 +10,22 @@ pub struct Went {
 }
 
 // A person is never stopped, but where nothing can be shown any more. So many turns of the loop over lines are left.
-pub fn settled(outcome: Outcome, typed: bool, keep: u8, left: u64, more: bool) -> Went {
-    let goes_on = bounds::both(more, !pond_say::lost());
+pub fn settled(
+    rt: &HostRuntime,
+    outcome: Outcome,
+    typed: bool,
+    keep: u8,
+    left: u64,
+    more: bool,
+) -> Went {
+    let goes_on = bounds::both(more, !pond_say::lost(rt));
     if typed {
         return Went {
             status: 0,
             more: goes_on,
         };
     }
-    let o = seen(outcome);
+    let o = seen(rt, outcome);
     let status = pond_say::status(o);
     if stops_at(o, keep) {
         stopped(left, status);
@@ -34,8 +41,8 @@ pub fn settled(outcome: Outcome, typed: bool, keep: u8, left: u64, more: bool) -
 }
 
 // Ctrl-C stops a script, whatever the line did.
-fn seen(o: Outcome) -> Outcome {
-    if pond_say::interrupted() {
+fn seen(rt: &HostRuntime, o: Outcome) -> Outcome {
+    if pond_say::interrupted(rt) {
         return Outcome::Outside;
     }
     o

@@ -19,9 +19,9 @@ pub enum Part {
     Near(u64),
 }
 
-pub fn list_part(file: &[u8], part: Part) -> Outcome {
+pub fn list_part(rt: &HostRuntime, file: &[u8], part: Part) -> Outcome {
     let mut room = io::large_buffer();
-    let got = pond_files::read(file, &mut room);
+    let got = pond_files::read(rt, file, &mut room);
     if !got.ok {
         return Outcome::File;
     }

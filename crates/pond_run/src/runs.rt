@@ -27,13 +27,13 @@ pub enum Size {
 }
 
 // An archive is a file of shared words, two bytes a word, and for a farm a text file of records; where its name has no bytes, there are none.
-pub fn run(file: &[u8], size: Size, archive: &[u8], view: View) -> Outcome {
+pub fn run(rt: &HostRuntime, file: &[u8], size: Size, archive: &[u8], view: View) -> Outcome {
     let mut store = io::large_buffer();
-    let got = pond_files::read(file, &mut store);
+    let got = pond_files::read(rt, file, &mut store);
     if !got.ok {
         return Outcome::File;
     }
-    with(file, front(&store, got.count), size, archive, view)
+    with(rt, file, front(&store, got.count), size, archive, view)
 }
 
 // One byte more than the most shared words take, so that a longer file is told from it.
@@ -41,35 +41,58 @@ fn space() -> [u8; 65538] {
     [0u8; 65538]
 }
 
-fn with(file: &[u8], seg: &[u8], size: Size, archive: &[u8], view: View) -> Outcome {
+fn with(
+    rt: &HostRuntime,
+    file: &[u8],
+    seg: &[u8],
+    size: Size,
+    archive: &[u8],
+    view: View,
+) -> Outcome {
     if archive.len() == 0 {
-        return sized(file, seg, size, archive, b"", view);
+        return sized(rt, file, seg, size, archive, b"", view);
     }
     let mut room = space();
-    let got = bytes_of(archive, &mut room, view);
+    let got = bytes_of(rt, archive, &mut room, view);
     if !got.ok {
         return Outcome::File;
     }
-    sized(file, seg, size, archive, front(&room, got.count), view)
+    sized(
+        rt,
+        file,
+        seg,
+        size,
+        archive,
+        front(&room, got.count),
+        view,
+    )
 }
 
 // The bytes of the archive's words: those of the file, or those of its records.
-fn bytes_of(archive: &[u8], room: &mut [u8], view: View) -> Whole {
+fn bytes_of(rt: &HostRuntime, archive: &[u8], room: &mut [u8], view: View) -> Whole {
     if let View::Farm(_) = view {
-        let s = pond_archive::read(archive, room);
+        let s = pond_archive::read(rt, archive, room);
         return Whole {
             ok: s.ok,
             count: pond_archive::eight(s.count),
         };
     }
-    pond_files::read(archive, room)
+    pond_files::read(rt, archive, room)
 }
 
-fn sized(file: &[u8], seg: &[u8], size: Size, archive: &[u8], bytes: &[u8], view: View) -> Outcome {
+fn sized(
+    rt: &HostRuntime,
+    file: &[u8],
+    seg: &[u8],
+    size: Size,
+    archive: &[u8],
+    bytes: &[u8],
+    view: View,
+) -> Outcome {
     match size {
-        Size::Usual => alone(file, seg, usual(seg), STEPS, archive, bytes, view),
-        Size::Words(words) => alone(file, seg, words as usize, STEPS, archive, bytes, view),
-        Size::Both(words, steps) => alone(file, seg, words as usize, steps, archive, bytes, view),
+        Size::Usual => alone(rt, file, seg, usual(seg), STEPS, archive, bytes, view),
+        Size::Words(words) => alone(rt, file, seg, words as usize, STEPS, archive, bytes, view),
+        Size::Both(words, steps) => alone(rt, file, seg, words as usize, steps, archive, bytes, view),
     }
 }
 
@@ -97,6 +120,7 @@ fn memory_of_most() -> [u16; 65536] {
 
 // A bench of the archive's words and so many more, as far as a session can have them: opening refuses more.
 fn alone(
+    rt: &HostRuntime,
     file: &[u8],
     seg: &[u8],
     words: usize,
@@ -111,6 +135,7 @@ fn alone(
     let out = bench::new_bench(n, s);
     if n <= 65536 {
         return filled(
+            rt,
             out.bench,
             &mut memory[0..n],
             file,
@@ -126,6 +151,7 @@ fn alone(
 }
 
 fn filled(
+    rt: &HostRuntime,
     b: Bench,
     memory: &mut [u16],
     file: &[u8],
@@ -138,7 +164,7 @@ fn filled(
 ) -> Outcome {
     let o = poured(b, memory, archive, bytes, view);
     if pond_say::went(o) {
-        return booked(b, memory, file, seg, words, steps, view);
+        return booked(rt, b, memory, file, seg, words, steps, view);
     }
     o
 }
@@ -155,6 +181,7 @@ fn poured(b: Bench, memory: &mut [u16], archive: &[u8], bytes: &[u8], view: View
 }
 
 fn booked(
+    rt: &HostRuntime,
     b: Bench,
     memory: &mut [u16],
     file: &[u8],
@@ -164,10 +191,11 @@ fn booked(
     view: View,
 ) -> Outcome {
     let mut book = pond_rows::book();
-    loaded(b, memory, &mut book, file, seg, words, steps, view)
+    loaded(rt, b, memory, &mut book, file, seg, words, steps, view)
 }
 
 fn loaded(
+    rt: &HostRuntime,
     b: Bench,
     memory: &mut [u16],
     book: &mut [u8],
@@ -180,12 +208,13 @@ fn loaded(
     let after = loads::asked(b, memory, seg, book, b"", file, 0, 0, seg.len());
     let o = after.outcome;
     if pond_say::went(o) {
-        return opened(after.bench, memory, book, seg, words, steps, view);
+        return opened(rt, after.bench, memory, book, seg, words, steps, view);
     }
     o
 }
 
 fn opened(
+    rt: &HostRuntime,
     b: Bench,
     memory: &mut [u16],
     book: &mut [u8],
@@ -197,7 +226,7 @@ fn opened(
     let after = asked(b, memory, book, seg, words as u64, view);
     let o = after.outcome;
     if pond_say::went(o) {
-        return went(after.bench, memory, book, seg, steps);
+        return went(rt, after.bench, memory, book, seg, steps);
     }
     o
 }
@@ -216,20 +245,34 @@ fn asked(
     pond_bench::open(b, memory, seg, book, 0, words, b"")
 }
 
-fn went(b: Bench, memory: &mut [u16], book: &[u8], seg: &[u8], steps: u64) -> Outcome {
-    let all = turns::all(b, memory, seg, 0, steps);
-    ended(all.bench, memory, book, seg, all.steps)
+fn went(
+    rt: &HostRuntime,
+    b: Bench,
+    memory: &mut [u16],
+    book: &[u8],
+    seg: &[u8],
+    steps: u64,
+) -> Outcome {
+    let all = turns::all(rt, b, memory, seg, 0, steps);
+    ended(rt, all.bench, memory, book, seg, all.steps)
 }
 
 // How it ended, how deep its stack went, and its words; the fault's line is the last one.
-fn ended(b: Bench, memory: &[u16], book: &[u8], seg: &[u8], steps: u64) -> Outcome {
+fn ended(
+    rt: &HostRuntime,
+    b: Bench,
+    memory: &[u16],
+    book: &[u8],
+    seg: &[u8],
+    steps: u64,
+) -> Outcome {
     let se = told::record(b, 0);
     turns::ended(book, 0, steps, se);
     faults::instruction(b, seg, se);
     pond_look::deepest(b, seg, se);
     pond_look::words(b, memory, book, 0, Wanted::All);
     let o = faults::reason(b, memory, seg, se, pond_windows::seen_by(book, se, 0));
-    turns::stopped(finished(o, se))
+    turns::stopped(rt, finished(o, se))
 }
 
 // A report that is still ready has done all its steps, and has not finished.

@@ -13,19 +13,26 @@ fn space() -> [u8; 1048576] {
     [0u8; 1048576]
 }
 
-pub fn save(b: Bench, memory: &[u16], book: &[u8], session: u64, file: &[u8]) -> Outcome {
+pub fn save(
+    rt: &HostRuntime,
+    b: Bench,
+    memory: &[u16],
+    book: &[u8],
+    session: u64,
+    file: &[u8],
+) -> Outcome {
     let i = session as usize;
     let se = told::record(b, i);
     if !se.used {
         return refusals::of_session(12, 0, session);
     }
-    written(told::region(memory, se.base, se.len), book, i, file)
+    written(rt, told::region(memory, se.base, se.len), book, i, file)
 }
 
-fn written(region: &[u16], book: &[u8], i: usize, file: &[u8]) -> Outcome {
+fn written(rt: &HostRuntime, region: &[u16], book: &[u8], i: usize, file: &[u8]) -> Outcome {
     let mut room = space();
     let n = lines(region, &mut room);
-    if !pond_files::write(file, front(&room, n)) {
+    if !pond_files::write(rt, file, front(&room, n)) {
         return Outcome::File;
     }
     told::session(book, i);

@@ -6,10 +6,12 @@ ghost use Rattle.std.specs.Prelude.{◌≤◌};
 mod marks;
 mod outcomes;
 
-use libc::STDOUT_FILENO;
 pub use marks::{forget, interrupted, leave, lost};
 pub use outcomes::{Outcome, status, went};
 use text::front;
+
+// The descriptor of standard output.
+const STDOUT: i32 = 1;
 
 // The last byte that is shown of a name, and of a path, which may hold letters in UTF-8.
 const NAME: u8 = 126;
@@ -18,7 +20,7 @@ const PATH: u8 = 255;
 
 // What cannot be written, as on a full disk, is a file that cannot be written: status 3.
 pub fn text(bytes: &[u8]) {
-    if !io::write_all(STDOUT_FILENO, bytes) {
+    if !io::write_all(STDOUT, bytes) {
         marks::leave(3);
     }
 }

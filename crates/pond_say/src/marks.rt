@@ -1,11 +1,16 @@
 // What passes between the program and its wrapper, bin/pond, in two files that the wrapper lends: the status in one, and in the other the
 // mark that Ctrl-C was pressed. Where nothing is lent, as at the gate, each call fails and nothing happens.
-// Above it: the console, long turns, and what is said. Below it: `libc` and `io`.
+// Above it: the console, long turns, and what is said. Below it: `std` and `io`.
+use std::fs;
+use std::fs::OpenOptions;
 
-// The descriptors that the wrapper lends. No file that the program opens gets so high a number.
+// The descriptor that the wrapper lends for the status. No file that the program opens gets so high a number.
 const STATUS: i32 = 9;
 
-const CTRL_C: i32 = 8;
+// The names under which the system has the two lent files. What is opened under such a name has a position of its own.
+const STATUS_FILE: &str = "/proc/self/fd/9";
+
+const CTRL_C_FILE: &str = "/proc/self/fd/8";
 
 // Leaves a status for the wrapper, which takes the highest that it finds.
 pub fn leave(status: u8) {
@@ -22,20 +27,28 @@ fn digit(status: u8) -> u8 {
 }
 
 // Whether something was left before the end: then standard output could not be written.
-pub fn lost() -> bool {
-    marked(STATUS)
+pub fn lost(rt: &HostRuntime) -> bool {
+    marked(rt, STATUS_FILE)
 }
 
 // Whether Ctrl-C was pressed since it was last forgotten.
-pub fn interrupted() -> bool {
-    marked(CTRL_C)
+pub fn interrupted(rt: &HostRuntime) -> bool {
+    marked(rt, CTRL_C_FILE)
 }
 
-pub fn forget() {
-    libc::ftruncate(CTRL_C, 0);
+pub fn forget(rt: &HostRuntime) {
+    if !marked(rt, CTRL_C_FILE) {
+        return;
+    }
+    if let Ok(file) = OpenOptions::new().write(true).open(rt, CTRL_C_FILE) {
+        let _ = file.set_len(0);
+    }
 }
 
-fn marked(fd: i32) -> bool {
-    let mut one = [0u8; 1];
-    libc::pread(fd, &mut one, 0) == 1
+// Whether the lent file has a byte. What is lent and is no file has none.
+fn marked(rt: &HostRuntime, file: &str) -> bool {
+    match fs::metadata(rt, file) {
+        Ok(lent) => lent.is_file() && lent.len() > 0,
+        Err(_) => false,
+    }
 }

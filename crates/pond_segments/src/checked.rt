@@ -7,9 +7,9 @@ use text::front;
 // A segment has at most 32,767 words.
 const LONGEST: usize = 65534;
 
-pub fn check(file: &[u8]) -> Outcome {
+pub fn check(rt: &HostRuntime, file: &[u8]) -> Outcome {
     let mut room = io::large_buffer();
-    let got = pond_files::read(file, &mut room);
+    let got = pond_files::read(rt, file, &mut room);
     if !got.ok {
         return Outcome::File;
     }

@@ -5,9 +5,9 @@ use pond_say::Outcome;
 use segment::Verdict;
 use text::front;
 
-pub fn list(file: &[u8]) -> Outcome {
+pub fn list(rt: &HostRuntime, file: &[u8]) -> Outcome {
     let mut room = io::large_buffer();
-    let got = pond_files::read(file, &mut room);
+    let got = pond_files::read(rt, file, &mut room);
     if !got.ok {
         return Outcome::File;
     }

@@ -5,20 +5,20 @@ use pond_say::Outcome;
 use segment::Verdict;
 use text::front;
 
-pub fn turn(file: &[u8], out: &[u8]) -> Outcome {
+pub fn turn(rt: &HostRuntime, file: &[u8], out: &[u8]) -> Outcome {
     let mut room = io::large_buffer();
-    let got = pond_files::read(file, &mut room);
+    let got = pond_files::read(rt, file, &mut room);
     if !got.ok {
         return Outcome::File;
     }
-    turned(file, front(&room, got.count), out)
+    turned(rt, file, front(&room, got.count), out)
 }
 
-fn turned(file: &[u8], seg: &[u8], out: &[u8]) -> Outcome {
+fn turned(rt: &HostRuntime, file: &[u8], seg: &[u8], out: &[u8]) -> Outcome {
     let mut room = io::large_buffer();
     let v = turning::turn(seg, &mut room);
     match v {
-        Verdict::Accepted => written(front(&room, seg.len()), out),
+        Verdict::Accepted => written(rt, front(&room, seg.len()), out),
         Verdict::Refused { number, place } => {
             checked::size(file, seg.len());
             pond_rules::refused(number, place)
@@ -26,8 +26,8 @@ fn turned(file: &[u8], seg: &[u8], out: &[u8]) -> Outcome {
     }
 }
 
-fn written(seg: &[u8], out: &[u8]) -> Outcome {
-    if !pond_files::write(out, seg) {
+fn written(rt: &HostRuntime, seg: &[u8], out: &[u8]) -> Outcome {
+    if !pond_files::write(rt, out, seg) {
         return Outcome::File;
     }
     let h = segment::head(seg);

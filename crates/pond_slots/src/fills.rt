@@ -13,12 +13,18 @@ fn space() -> [u8; 65538] {
     [0u8; 65538]
 }
 
-pub fn fill(b: Bench, memory: &mut [u16], book: &[u8], file: &[u8]) -> Outcome {
+pub fn fill(
+    rt: &HostRuntime,
+    b: Bench,
+    memory: &mut [u16],
+    book: &[u8],
+    file: &[u8],
+) -> Outcome {
     if pond_windows::held(b, book) {
         return Outcome::Typing;
     }
     let mut room = space();
-    let got = pond_files::read(file, &mut room);
+    let got = pond_files::read(rt, file, &mut room);
     if !got.ok {
         return Outcome::File;
     }

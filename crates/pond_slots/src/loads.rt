@@ -12,6 +12,7 @@ const AREA: usize = 65536;
 
 // The file is read only where its slot can be loaded, so that no loaded segment is overwritten. Where it cannot, the entry refuses whatever is asked.
 pub fn load(
+    rt: &HostRuntime,
     b: Bench,
     memory: &[u16],
     store: &mut [u8],
@@ -22,7 +23,7 @@ pub fn load(
 ) -> Next {
     let i = slot as usize;
     let start = area(i);
-    let got = read(store, file, start, free(b, i));
+    let got = read(rt, store, file, start, free(b, i));
     if !got.ok {
         return Next {
             bench: b,
@@ -40,6 +41,7 @@ fn free(b: Bench, i: usize) -> bool {
 
 // A segment under a name, into the lowest slot that is not loaded.
 pub fn load_named(
+    rt: &HostRuntime,
     b: Bench,
     memory: &[u16],
     store: &mut [u8],
@@ -56,7 +58,7 @@ pub fn load_named(
             outcome: Outcome::Refused,
         };
     }
-    load(b, memory, store, book, i as u64, name, file)
+    load(rt, b, memory, store, book, i as u64, name, file)
 }
 
 // The lowest slot that is not loaded, or 16.
@@ -81,12 +83,12 @@ fn area(i: usize) -> usize {
 }
 
 // The file into the bytes from start on, where the slot is free.
-fn read(store: &mut [u8], file: &[u8], start: usize, free: bool) -> Whole {
+fn read(rt: &HostRuntime, store: &mut [u8], file: &[u8], start: usize, free: bool) -> Whole {
     let end = told::past(start, AREA);
     if free {
         if start <= end {
             if end <= store.len() {
-                return pond_files::read(file, &mut store[start..end]);
+                return pond_files::read(rt, file, &mut store[start..end]);
             }
         }
     }

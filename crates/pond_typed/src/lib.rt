@@ -9,4 +9,4 @@ mod shell;
 pub use cuts::{Cut, is_command, words_of, wrong};
 pub use helps::{help, welcome};
 pub use reads::{Line, read_line};
-pub use shell::arguments;
+pub use shell::{arg_count, arguments};

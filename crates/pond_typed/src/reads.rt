@@ -1,7 +1,5 @@
 // A line of standard input, byte by byte.
 // Above it: the console. Below it: files.
-use libc::STDIN_FILENO;
-
 // How many bytes of a line were kept, whether it had more, whether another line may follow, and whether the input could be read.
 #[derive(Clone, Copy)]
 pub struct Line {
@@ -19,9 +17,9 @@ struct Taken {
     byte: u8,
 }
 
-fn next(fd: i32) -> Taken {
+fn next(rt: &HostRuntime) -> Taken {
     let mut one = [b'\n'; 1];
-    let got = pond_files::read_some(fd, &mut one);
+    let got = pond_files::read_some(&mut rt.stdin(), &mut one);
     let there = got.count == 1;
     let error = got.error;
     if error != 0 {
@@ -34,13 +32,13 @@ fn next(fd: i32) -> Taken {
 
 // Reads to the end of the line, and keeps as much as room holds, or nothing of a line that cannot be
 // read to its end. It reads byte by byte, so that nothing after the line is taken.
-pub fn read_line(room: &mut [u8]) -> Line {
+pub fn read_line(rt: &HostRuntime, room: &mut [u8]) -> Line {
     let mut n = 0;
     let mut over = false;
     let mut turns = u64::MAX;
     while turns > 0 {
         turns -= 1;
-        let got = next(STDIN_FILENO);
+        let got = next(rt);
         let byte = got.byte;
         let there = got.there;
         if byte == b'\n' {
