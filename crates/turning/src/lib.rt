@@ -1,6 +1,7 @@
 // Turning a segment to the other byte sex: its bytes copied, then the two bytes at each word position written swapped.
 // Above: the command that turns a file, and the program of the cases. Below: the numbers of a segment, and the verdict of checks 1 to 8.
 #![tactic(auto)]
+
 ghost use Rattle.std.specs.Prelude.{◌≡◌, ◌++◌, ◌+◌, ◌*◌, ◌≤◌, ◌<◌, eqb, length, drop};
 ghost use Rattle.basis.specs.Bools.{inside};
 ghost use Rattle.segment.specs.Head.{count};

@@ -25,7 +25,7 @@ loop-k-preserved-then-e-ne0 c =
     let l = read.loop-k in
     let start = read in
     let e = ap (λ (r : Routine). r.entry) read.routine_of-r.ensures in
-    (omega arith, t.auto.1.0 ∙ l.invariant.1, t.ensures ∙ frames_more start.args.seg.now start.args.out.now l.k l.invariant.2 e (omega (arith, asked.if-e-ne0.true)))
+    (omega arith, t.auto.out ∙ l.invariant.1, t.ensures ∙ frames_more start.args.seg.now start.args.out.now l.k l.invariant.2 e (omega (arith, asked.if-e-ne0.true)))
 
 pub loop-k-preserved : goal.loop-k-preserved
 loop-k-preserved c =

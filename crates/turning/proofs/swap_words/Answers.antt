@@ -19,7 +19,7 @@ loop-w-preserved c =
     let a = turn.args in
     let l = turn.loop-w in
     let t = c.swap_word in
-    (omega arith, omega arith, t.auto.1.0 ∙ l.invariant.2, t.ensures ∙ range_more a.seg.now a.out.now a.first l.w (omega arith) l.invariant.3)
+    (omega arith, omega arith, t.auto.out ∙ l.invariant.2, t.ensures ∙ range_more a.seg.now a.out.now a.first l.w (omega arith) l.invariant.3)
 
 pub shape_of-out : goal.shape_of-out
 shape_of-out c = c.loop-w.invariant.2

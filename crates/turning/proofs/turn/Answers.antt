@@ -17,10 +17,13 @@ returns-in-Accepted c =
     let words = c in
     let told = words in
     let judged = told in
-    (judged.judge_turn-v.ensures, rw (sym judged.judge_turn-v.ensures ∙ ap ruling_of told.in-Accepted.is) words.turn_words.ensures)
+    record {
+      answer = judged.judge_turn-v.ensures;
+      output = rw (sym judged.judge_turn-v.ensures ∙ ap ruling_of told.in-Accepted.is) words.turn_words.ensures;
+    }
 
 pub returns-in_default : goal.returns-in_default
 unfolding output_of turned_into
 returns-in_default c =
     let judged = c in
-    (judged.judge_turn-v.ensures, rw (sym judged.judge_turn-v.ensures ∙ ap ruling_of c.in_default.is))
+    record { answer = judged.judge_turn-v.ensures; output = rw (sym judged.judge_turn-v.ensures ∙ ap ruling_of c.in_default.is) }
