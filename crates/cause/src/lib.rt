@@ -3,6 +3,7 @@
 //
 // A step that faults changes no word and no register, so the check that failed fails again on the same numbers.
 #![tactic(auto)]
+
 mod flow;
 mod judged;
 mod meaning;

@@ -1,6 +1,7 @@
 // What stands at a byte of the code: the first byte, whether it is carried, and its operands as far as they are there.
 // Above: a step that faults, listings, and what is told of a fault. Below: the table of first bytes in `opcodes`, and the reader, which fetches operands.
 #![tactic(auto)]
+
 mod jump;
 mod place;
 mod recorded;
