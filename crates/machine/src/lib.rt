@@ -1,6 +1,7 @@
 // The turn of one session, on a memory that holds the shared words and the session's region.
 // Above: `session` and the bench; below: `steps`, which does one step.
 #![tactic(auto)]
+
 mod turns;
 
 use plan::Regs;

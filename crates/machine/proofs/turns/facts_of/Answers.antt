@@ -6,10 +6,9 @@ use Rattle.machine.proofs.turns.facts_of.Goals as goal
 
 pub returns : goal.returns
 returns c =
-    let sexed = c in
-    let h = sexed.head-head.ensures in
+    let h = c.head-head.ensures in
     record {
-      sexes = sexed.sex_number.ensures ∙ ap (λ (x : Segment). sex_of x.least) h;
+      sexes = c.sex_number.ensures ∙ ap (λ (x : Segment). sex_of x.least) h;
       dicts = ap (λ (x : Segment). x.dict) h;
       counts = ap (λ (x : Segment). x.count) h;
       pools = ap (λ (x : Segment). x.pool) h;
