@@ -1,6 +1,7 @@
 // An archive: records of four words, farm, pond, day and concentration, in rising order of farm numbers. What is accepted as one, and where a
 // farm's records lie in it. Above: archive, which asks this of a bench's shared words. Below: sound, for the two numbers of a window.
 #![tactic(auto)]
+
 ghost use Rattle.std.specs.Prelude.{◌≡◌, ◌-◌, ◌*◌, ◌<◌, length};
 ghost use Rattle.archive_records.specs.Records.{records_in, farm_at, accepted, first_fall, range_of};
 

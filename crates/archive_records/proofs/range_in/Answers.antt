@@ -6,6 +6,7 @@ use Prim.Native.Nat.{ℕ, suc, ◌+◌, ◌-◌, ◌*◌, ◌≤◌}
 use Rattle.archive_records.specs.Records.{records_in, farm_at, how_many, first_of, range_of}
 use Rattle.archive_records.proofs.Ranges.{within, other_many, other_first, own_many, own_first, later_first}
 use Rattle.archive_records.proofs.range_in.Goals as goal
+use Rattle.archive_records.proofs.range_in.Goals.{then-farm_at-farm, else-farm_at-farm, then-count-eq0, else-count-eq0}
 
 abbrev Known : List ℕ → ℕ → ℕ → ℕ → ℕ → Type 0
 Known a farm r first count = (first ≡ first_of a farm (r + 1)) × (count ≡ how_many a farm (r + 1))
@@ -34,7 +35,6 @@ module _ (a : List ℕ) (farm r first count x : ℕ) (f : first ≡ first_of a f
       let h' = sym e ∙ h in
       rw (next, later_first a farm r h' (rw m at z), own_many a farm r h') (f, rw m)
 
-
 pub loop-r-init : goal.loop-r-init
 unfolding how_many first_of
 loop-r-init c = ((omega arith, (omega arith, omega arith)), (refl, refl))
@@ -47,7 +47,17 @@ loop-r-smaller c = omega (arith, c.loop-r-test.true)
 
 pub loop-r-preserved : goal.loop-r-preserved
 loop-r-preserved c =
-    let k = known c in
+    let inv = c.loop-r.invariant.1 in
+    let e = c.farm_at.ensures in
+    let k : Known c.args.words.now c.args.farm c.loop-r.r c.if-farm_at-farm.first c.if-farm_at-farm.count =
+    elim c.if-farm_at-farm.branch [
+      | then-farm_at-farm w ↦ rw (w.first-is, w.count-is) (elim w.if-count-eq0.branch [
+        | then-count-eq0 u ↦ rw u.first-is (begins _ _ _ _ _ _ inv.0 inv.1 e w.if-farm_at-farm.true u.if-count-eq0.true)
+        | else-count-eq0 u ↦ rw u.first-is (extends _ _ _ _ _ _ inv.0 inv.1 e w.if-farm_at-farm.true u.if-count-eq0.false)
+      ])
+      | else-farm_at-farm w ↦ rw (w.first-is, w.count-is) (passes _ _ _ _ _ _ inv.0 inv.1 e w.if-farm_at-farm.false)
+    ]
+    in
     ((omega (arith, c.loop-r-test.true), bounded _ _ _ _ _ k), k)
 
 pub returns : goal.returns

@@ -14,7 +14,7 @@ pub loop-i-init : goal.loop-i-init
 loop-i-init c = (omega arith, fill_none c.args.r.now 0, refl)
 
 pub offset_bounds-r-i : goal.offset_bounds-r-i
-offset_bounds-r-i c = omega (arith, c.well-formed.0.1)
+offset_bounds-r-i c = omega (arith, c.well_formed.0.1)
 
 pub bounds-r-i : goal.bounds-r-i
 bounds-r-i c = omega arith
