@@ -13,7 +13,7 @@ returns-in-Got c =
     let row = last in
     let start = row in
     let z = sym (ap fetched_of x.in-Got.is) ∙ last.after-z.ensures in
-    rw (c.value_of-in-Got.ensures, x.value_of_lem.ensures, value_is _, value_is _)
+    rw (c.value_of-in-Got.ensures, x.value_of.ensures, value_is _, value_is _)
     (stands_by _ _ start.args.first _ _ _ _ _ (row_tells start.args.first _ (search rules) row.row_of-row.ensures) last.by_form-x.ensures
     last.after-y.ensures z)
 

@@ -11,14 +11,14 @@ overflow_cast-value c =
     let read = c in
     let start = read in
     let b = byte_there _ _ _ _ (sym (ap fetched_of c.in-Got.is) ∙ read.read_at-first.ensures) in
-    record { fits = omega (arith, b.1, read.shared_slice_known-1.given start.args.at) }
+    record { fits = omega (arith, b.1, read.type_inv.seg start.args.at) }
 
 pub returns-in-Got : goal.returns-in-Got
 returns-in-Got c =
     let read = c in
     let at = read.args.at in
-    reads_got _ at _ _ _ (read.shared_slice_known-1.given at).fits (sym (ap fetched_of c.in-Got.is) ∙ read.read_at-first.ensures)
-    c.by_Row.ensures
+    reads_got _ at _ _ _ (read.type_inv.seg at).fits (sym (ap fetched_of c.in-Got.is) ∙ read.read_at-first.ensures)
+    c.by_row.ensures
 
 pub returns-in-Out : goal.returns-in-Out
 returns-in-Out c =
