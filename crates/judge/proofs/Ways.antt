@@ -5,7 +5,6 @@ use native.Mathlib.Omega.{arith}
 use mathlib.Core.Path.{◌≡◌, sym, ap, ◌∙◌}
 use mathlib.Core.List.{List, [], ◌∷◌}
 use mathlib.Core.Bool.{true, false}
-use lib.ListN.{length}
 use mir.Val.{Fits}
 use mir.Syntax.{w16}
 use Rattle.operand.specs.declared.Operand.{Operand}
