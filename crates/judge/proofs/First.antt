@@ -1,7 +1,6 @@
 -- What the first byte's answer comes to: fault 1, or the rest of the instruction, whose operands begin inside the segment.
 -- Above: the proofs of `decode` and `judge`; below: the decoder of `pmachine`.
 use Prim.Native.Nat.{ℕ, ◌+◌, ◌<◌, ◌≤◌}
-use native.Mathlib.Omega.{arith}
 use mathlib.Core.Path.{◌≡◌, refl, sym, ◌∙◌, ap, subst}
 use mathlib.Core.Bool.{Bool, true, false, cond}
 use mathlib.Core.List.{List}
@@ -12,8 +11,8 @@ use Rattle.basis.specs.Bools.{inside}
 use Rattle.basis.proofs.Bools.{cond_holds, and_snd}
 use Rattle.operand.specs.Bytes.{byte_at}
 use Rattle.pmachine.specs.Opcode.{opcode}
-use Rattle.pmachine.specs.Decoding.{Decoded as Decoding, decode, faulty, row_decoded}
-use Rattle.pmachine.specs.Step.{Outcome, fault, judged_by, judge}
+use Rattle.pmachine.specs.Decoding.{decode, faulty, row_decoded}
+use Rattle.pmachine.specs.Step.{Outcome, judged_by, judge}
 use Rattle.plan.specs.declared.Regs.{Regs}
 use Rattle.plan.specs.declared.Planned.TheVariants.{Bad}
 use Rattle.plan.specs.Answer.{regs_of, outcome_of}

@@ -1,13 +1,10 @@
 -- The ways through an arm of the flat match: from what its byte's row says, and what the operands were fetched as, to what is judged.
 -- Above: the proof of `act`, which applies them; below: Decodes and Arms of `plan`.
-use Prim.Native.Nat.{ℕ, ◌-◌, ◌<◌, ◌≤◌}
+use Prim.Native.Nat.{ℕ, ◌<◌, ◌≤◌}
 use native.Mathlib.Omega.{arith}
 use mathlib.Core.Path.{◌≡◌, sym, ap, ◌∙◌}
 use mathlib.Core.List.{List, [], ◌∷◌}
 use mathlib.Core.Bool.{true, false}
-use lib.ListN.{length}
-use mir.Val.{Fits}
-use mir.Syntax.{w16}
 use Rattle.operand.specs.declared.Operand.{Operand}
 use Rattle.operand.specs.declared.Operand.TheVariants.{Got, Out}
 use Rattle.operand.specs.Operand.{Form, UB, DB, got, fetched, fetched_of}
@@ -107,16 +104,3 @@ module _ {s shared w : List ℕ} {q : Regs} {f : Facts} (ready : Ready s f share
   -- the byte after an operand
   pub near : (form : Form) (from : ℕ) {o : Operand} {a n : ℕ} → fetched_of o ≡ fetched form s from → o ≡ Got a n → n ≤ 65535
   near form from {o} {a} {n} e p = omega (arith, came_high o form s from e a n p, ready.loaded.short)
-
-  -- the numbers of the pool, and 6+G
-  pub pool_fits : (f.pool ≤ 32767) × ((f.reals ≤ 32767) × (f.floor ≤ 65535))
-  pool_fits =
-      let l = ready.loaded in
-      let t = ready.told in (
-        omega (arith, t.pools, l.pool_high, l.even, l.short),
-        (omega (arith, t.reals, l.reals_high, l.even, l.short), omega (arith, t.floors, ready.ranged.low, ready.small)),
-      )
-
--- the operand that a short form holds
-pub slim : (b k : ℕ) {n : ℕ} → b < n → n ≤ 256 → Fits w16 (b - k)
-slim b k h l = omega (arith, h, l)

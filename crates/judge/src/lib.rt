@@ -2,6 +2,7 @@
 // Above: `machine`, which writes what is planned; below: `plan_stack`, `plan_places`, `plan_calls` and `plan_pool`, what each
 // meaning comes to, and `operand`, by which each arm fetches its own.
 #![tactic(auto)]
+
 ghost use Rattle.std.specs.Prelude.{◌≡◌, ◌+◌, ◌≤◌, length};
 ghost use Rattle.pmachine.specs.Opcode.{opcode};
 ghost use Rattle.pmachine.specs.Decoding.{row_decoded};

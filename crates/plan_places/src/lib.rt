@@ -1,6 +1,7 @@
 // Words of records, addresses, and the constant pool: what is read, and where a word may be stored.
 // Above: `judge`; below: `plan`.
 #![tactic(auto)]
+
 ghost use Rattle.std.specs.Prelude.{◌≡◌, List, ℕ, ◌≤◌, length, get_or};
 ghost use Rattle.plan.specs.Answer.{regs_of, outcome_of};
 ghost use Rattle.plan.specs.Mirror.{lack, loaded, addressed, stored, gives, read_at, stored_at, pooled};

@@ -1,6 +1,7 @@
 // Words on the stack: what is taken from it and given to it.
 // Above: `judge`; below: `plan`, and the integers of `word` and `compare`.
 #![tactic(auto)]
+
 ghost use Rattle.std.specs.Prelude.{◌≡◌, List, ℕ, ◌+◌, ◌≤◌, get_or};
 ghost use Rattle.plan.specs.Answer.{regs_of, outcome_of};
 ghost use Rattle.plan.specs.Mirror.{lack, pushed, swapped, one, one_of, two, two_of, divided, division_of, checked};
