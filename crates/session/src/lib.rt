@@ -1,6 +1,7 @@
 // A session on a loaded segment: which registers are sound, how it starts, and its turn in a memory that holds all regions.
 // Above: the bench, which knows of segments and the machine by this crate alone; below: `machine` and `segment`.
 #![tactic(auto)]
+
 ghost use Rattle.std.specs.Prelude.{◌≡◌, true, ◌+◌, ◌-◌, ◌≤◌, length};
 ghost use Rattle.segment.specs.Judge.{judged};
 ghost use Rattle.basis.specs.Checks.{passed};
