@@ -1,13 +1,13 @@
 -- What the verdict of the guard says: the refusal of the whole list of checks; or that the bench is sound, and that what is named passes.
 -- Above: the entries' proofs. Below: `begins` of specs/Entries, sound's facts of an open session.
 use mathlib.Core.Path.{◌≡◌, refl, sym, ap, ◌∙◌}
-use mathlib.Core.List.{List, [], ◌∷◌, ◌++◌, map}
+use mathlib.Core.List.{List, [], ◌∷◌, ◌++◌}
 use mathlib.Core.Bool.{Bool, true, false, ◌&&◌}
 use Prim.Native.Nat.{ℕ, ◌≤◌}
 use native.Mathlib.Omega.{arith}
 use native.Mathlib.Decide.{dec_lt}
 use lib.Dec.{leb}
-use lib.ListN.{length, get_or}
+use lib.ListN.{length, get_or, get_or-eq_default}
 use borrow.Author.Tests.{le-leb, lt-leb, leb-true, eqb-true}
 use Rattle.basis.specs.Checks.{Check, check, passed, refused, ruling}
 use Rattle.basis.proofs.Bools.{both_true}
@@ -19,7 +19,7 @@ use Rattle.sound.specs.declared.Session.{Session}
 use Rattle.sound.specs.declared.Slot.{Slot}
 use Rattle.sound.specs.Bench.{no_slot, no_session, slot_at, World, session_at}
 use Rattle.sound.specs.Sound.{all, placed}
-use Rattle.sound.proofs.Lists.{decided, length_mapped, past_end}
+use Rattle.sound.proofs.Lists.{decided}
 use Rattle.sound.proofs.Facts.{Opened, opened, Limits, limits, taken_apart}
 use Rattle.entry.specs.Entries.{is_sound, loaded_at, open_at, begins}
 use Rattle.entry.proofs.Refusing.{refused_first}
@@ -66,24 +66,24 @@ guarded store w named asked v h e = record { refuses = λ ds n p f. refused_firs
           places = parts.places;
         }
 
--- ---- what is named, by its own record; f is how a program holds the sixteen
+-- ---- what is named, by its own record among the sixteen
 
-module _ {A X : Type 0} (p : A → Bool) (f : A → X) (l : List A) (i : ℕ) (d : A) (o : length (map f l) ≡ 16) (n : p d ≡ false) (x : A) (e : x ≡ get_or l i d) where
+module _ {A : Type 0} (p : A → Bool) (l : List A) (i : ℕ) (d : A) (o : length l ≡ 16) (n : p d ≡ false) (x : A) (e : x ≡ get_or l i d) where
   in_sixteen : p x ≡ (leb i 15 && p (get_or l i d))
   in_sixteen = rw e
-      (decided (dec_lt 15 i) (λ h. rw (lt-leb i 15 h) (ap p (sym (past_end f l i d o h)) ∙ n)) (λ h. rw (le-leb i 15 (omega arith))))
+      (decided (dec_lt 15 i) (λ h. rw (lt-leb i 15 h) (ap p (get_or-eq_default l d {n = i} (omega arith)) ∙ n)) (λ h. rw (le-leb i 15 (omega arith))))
 
-module _ {X : Type 0} (store : List ℕ) (w : World) (i : ℕ) (v : Verdict) where
-  pub slot_guarded : (f : Slot → X) → length (map f w.bench.slots) ≡ 16 → (sl : Slot) → sl ≡ slot_at w.bench.slots i → ruling_of v ≡ ruling (begins store w sl.loaded)
+module _ (store : List ℕ) (w : World) (i : ℕ) (v : Verdict) where
+  pub slot_guarded : length w.bench.slots ≡ 16 → (sl : Slot) → sl ≡ slot_at w.bench.slots i → ruling_of v ≡ ruling (begins store w sl.loaded)
       → Guarded store w (loaded_at w i) v (Begun store w (loaded_at w i))
-  slot_guarded f o sl e h = guarded store w sl.loaded (loaded_at w i) v h (in_sixteen (λ (x : Slot). x.loaded) f w.bench.slots i no_slot o refl sl e)
+  slot_guarded o sl e h = guarded store w sl.loaded (loaded_at w i) v h (in_sixteen (λ (x : Slot). x.loaded) w.bench.slots i no_slot o refl sl e)
 
-  pub session_guarded : (f : Session → X) → length (map f w.bench.sessions) ≡ 16 → (se : Session) → se ≡ session_at w i → ruling_of v ≡ ruling (begins store w se.used)
+  pub session_guarded : length w.bench.sessions ≡ 16 → (se : Session) → se ≡ session_at w i → ruling_of v ≡ ruling (begins store w se.used)
       → Guarded store w (open_at w i) v (Going store w i se)
-  session_guarded f o se e h = record { refuses = whole.refuses; goes = λ t. goes (whole.goes t) }
+  session_guarded o se e h = record { refuses = whole.refuses; goes = λ t. goes (whole.goes t) }
     where
       whole : Guarded store w (open_at w i) v (Begun store w (open_at w i))
-      whole = guarded store w se.used (open_at w i) v h (in_sixteen (λ (x : Session). x.used) f w.bench.sessions i no_session o refl se e)
+      whole = guarded store w se.used (open_at w i) v h (in_sixteen (λ (x : Session). x.used) w.bench.sessions i no_session o refl se e)
 
       goes : Begun store w (open_at w i) → Going store w i se
       goes g =
@@ -92,5 +92,5 @@ module _ {X : Type 0} (store : List ℕ) (w : World) (i : ℕ) (v : Verdict) whe
             passes = g.passes;
             low = leb-true i 15 u.0;
             few = g.limits.few;
-            session = rw e (opened store w (record { sound = g.sound; sixteen = length_mapped f w.bench.sessions 16 o }) i u.1);
+            session = rw e (opened store w (record { sound = g.sound; sixteen = o }) i u.1);
           }

@@ -1,6 +1,7 @@
 // What the entries of a bench share: what they answer, the guard with which each begins, and the writing of one session.
 // Above: a crate for each entry, and `bench`, which passes them on. Below: sound (what a bench holds and its test).
 #![tactic(auto)]
+
 ghost use Rattle.std.specs.Prelude.{◌≡◌, List, ℕ};
 ghost use Rattle.sound.specs.Bench.{world_of};
 ghost use Rattle.entry.specs.Answer.{result_of, refused_at};

@@ -1,23 +1,16 @@
 -- `entry::begun::guard` meets its contract.
-use borrow.Author.Tests.{not-true, not-false}
 use mathlib.Core.Path.{sym, ◌∙◌}
 use Rattle.basis.specs.Checks.{ruling}
 use Rattle.entry.proofs.begun.guard.Goals as goal
 
 pub returns-then-not-is_sound : goal.returns-then-not-is_sound
 unfolding ruling
-returns-then-not-is_sound c = rw (sym c.is_sound.ensures ∙ not-true _ c.if-not-is_sound.true)
+returns-then-not-is_sound c = rw (sym c.is_sound.ensures ∙ c.if-not-is_sound.true)
 
 pub returns-then-not-named : goal.returns-then-not-named
 unfolding ruling
-returns-then-not-named c =
-    let judged = c in
-    let named = judged.args.named in
-    rw (sym judged.is_sound.ensures ∙ not-false _ c.if-not-is_sound.false, not-true named c.if-not-named.true)
+returns-then-not-named c = rw (sym c.is_sound.ensures ∙ c.if-not-is_sound.false, c.if-not-named.true)
 
 pub returns : goal.returns
 unfolding ruling
-returns c =
-    let judged = c in
-    let named = judged.args.named in
-    rw (sym judged.is_sound.ensures ∙ not-false _ c.if-not-is_sound.false, not-false named c.if-not-named.false)
+returns c = rw (sym c.is_sound.ensures ∙ c.if-not-is_sound.false, c.if-not-named.false)

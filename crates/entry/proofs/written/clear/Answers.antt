@@ -18,11 +18,9 @@ part_cleared m l base len f h =
 pub returns : goal.returns
 unfolding part
 returns c =
-    let words = c in
-    let start = words in
-    let a = start.args in
+    let a = c.args in
     λ j.
     record {
       bench = c.with_session.ensures j;
-      mem = part_cleared a.memory.now words.clear_words.new.0 a.base a.len start.requires.1 words.clear_words.ensures j;
+      mem = part_cleared a.memory.now c.clear_words.new.r a.base a.len c.requires.1 c.clear_words.ensures j;
     }
