@@ -2,6 +2,7 @@
 // one is proved to be its definition.
 // Above it: the console, which reads and prints. Below it: nothing.
 #![tactic(auto)]
+
 mod pieces;
 mod shown;
 mod slices;
