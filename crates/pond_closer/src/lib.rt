@@ -5,4 +5,4 @@ mod chains;
 mod steps;
 
 pub use chains::closer;
-pub use steps::step;
+pub use crate::steps::step;
