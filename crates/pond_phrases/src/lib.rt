@@ -2,6 +2,7 @@
 // for many small ones.
 // Above it: whatever says a sentence. Below it: how the console speaks.
 #![tactic(auto)]
+
 mod marks;
 mod rows;
 

@@ -2,6 +2,7 @@
 // files of the slots, and what the sessions were opened for. A row has 4,098 bytes: two for its length, least byte first, and as many as the longest word has.
 // Above it: the console's commands. Below it: `bounds`. Every function takes any rows and any numbers.
 #![tactic(auto)]
+
 mod kept;
 mod names;
 mod views;

@@ -4,6 +4,7 @@
 // A line has four numbers: farm, pond, day and concentration. Blanks, tabs, or one comma or semicolon stand between them. Blank lines and those that begin
 // with # are passed over, and so is a heading, if it is the first line that is neither.
 #![tactic(auto)]
+
 mod complaints;
 mod fields;
 mod lines;

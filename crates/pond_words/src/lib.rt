@@ -2,6 +2,7 @@
 // Above it: what does the commands. Below it: the names that are kept, and how the console speaks. No bench is here.
 // A command comes on a tape: its verb is word 0, and n words stand behind it.
 #![tactic(auto)]
+
 mod deeds;
 mod expects;
 pub mod forms;
