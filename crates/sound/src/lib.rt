@@ -1,6 +1,7 @@
 // What a bench holds, by value: slots, session records, and the limits of its memory. specs/Sound says when it is sound.
 // Above: sound_regions and sound_test, which test that, and the entries of the bench. Below: session, for registers.
 #![tactic(auto)]
+
 ghost use Rattle.std.specs.Prelude.{◌≡◌, get_or};
 ghost use Rattle.sound.specs.Bench.{no_slot, no_session, slot_at, fresh, at_cpu};
 ghost use Rattle.sound.specs.Sound.{limits_ok};

@@ -1,6 +1,7 @@
 // Soundness of the regions: each lies above the shared words and inside memory, its session's window inside the shared words, and no two overlap.
 // Above: `sound_test`, the whole test. Below: `sound`, for the records, and the small tests of `bounds`.
 #![tactic(auto)]
+
 ghost use Rattle.std.specs.Prelude.{◌≡◌};
 ghost use Rattle.sound.specs.Sound.{all, placed, apart, all_apart};
 

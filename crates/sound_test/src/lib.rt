@@ -2,6 +2,7 @@
 // Above: entry, whose guard is how every entry begins. Below: sound (what a bench holds), sound_regions, session (registers in their ranges) and
 // checks (1 to 8).
 #![tactic(auto)]
+
 ghost use Rattle.std.specs.Prelude.{◌≡◌};
 ghost use Rattle.sound.specs.Sound.{sound_b};
 
