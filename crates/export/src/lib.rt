@@ -1,6 +1,7 @@
 // The machine's turn under a C name, so that speed/ can time the proved code beside its baselines. Nothing else calls it.
 // Below: `machine`. The caller meets what is required, as the bench does; registers, kind, fault and place come back in `after`.
 #![tactic(auto)]
+
 ghost use Rattle.std.specs.Prelude.{◌-◌, length};
 ghost use Rattle.pmachine.specs.Sound.{Loaded, Ranged};
 ghost use Rattle.plan.specs.Answer.{regs_of};
