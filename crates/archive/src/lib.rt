@@ -2,6 +2,7 @@
 // found in it, and a session is opened for a farm that sees these and no others.
 // Above: the program. Below: entry_open for the opening, sound_test for 11, and archive_records for what an archive is.
 #![tactic(auto)]
+
 ghost use Rattle.std.specs.Prelude.{◌≡◌};
 ghost use Rattle.basis.specs.Checks.{ruling};
 ghost use Rattle.segment.specs.Judge.{ruling_of};

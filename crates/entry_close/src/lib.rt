@@ -1,6 +1,7 @@
 // Closing a session: its region is zeroed, and region and record are free.
 // Above: `bench`, by which programs call it. Below: entry (the guard, and words set to zero), sound.
 #![tactic(auto)]
+
 ghost use Rattle.std.specs.Prelude.{◌≡◌};
 ghost use Rattle.sound.specs.Bench.{world_of};
 ghost use Rattle.entry.specs.Answer.{result_of};

@@ -1,6 +1,7 @@
 // A new bench: no slot loaded, no record used, and no word touched.
 // Above: `bench`, by which programs call it. Below: entry for the answer, sound.
 #![tactic(auto)]
+
 ghost use Rattle.std.specs.Prelude.{◌≡◌};
 ghost use Rattle.entry.specs.Entries.{empty_bench, new_of};
 

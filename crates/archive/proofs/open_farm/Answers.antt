@@ -4,11 +4,8 @@ use Rattle.archive.proofs.open_farm.Goals as goal
 
 pub returns-in-At : goal.returns-in-At
 returns-in-At c =
-    let opening = c in
-    let found = opening in
-    opens_there _ _ _ _ _ _ found.range-found.ensures _ found.in-At.is opening.open_window.ensures
+    opens_there _ _ _ _ _ _ c.range-found.ensures _ c.in-At.is c.open_window.ensures
 
 pub returns-in-Refused : goal.returns-in-Refused
 returns-in-Refused c =
-    let found = c in
-    refuses_there _ _ _ _ _ _ found.range-found.ensures _ _ found.in-Refused.is (c.refuse.ensures _)
+    refuses_there _ _ _ _ _ _ c.range-found.ensures _ _ c.in-Refused.is (c.refuse.ensures _)

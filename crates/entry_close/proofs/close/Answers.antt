@@ -1,12 +1,16 @@
 -- `entry_close::close` meets its contract.
+use borrow.Author.Rules.{rules}
+use lib.ListN.{length}
+use mathlib.Core.List.{[]}
 use mathlib.Core.Path.{◌≡◌}
 use Prim.Native.Nat.{ℕ}
 use native.Mathlib.Omega.{arith}
 use Rattle.sound.specs.declared.Session.{Session}
-use Rattle.sound.specs.Bench.{no_session, World, session_at}
+use Rattle.sound.specs.Bench.{no_session, World, world_of, session_at}
 use Rattle.entry.specs.Answer.{done}
 use Rattle.entry.specs.Entries.{cleared, close_of}
 use Rattle.entry.proofs.Refusing.{refuses, accepts}
+use Rattle.entry.proofs.Starts.{session_guarded}
 use Rattle.entry_close.proofs.close.Goals as goal
 
 closed : (w x : World) (i : ℕ) (se none : Session) → x ≡ cleared i none se.base se.len w → none ≡ no_session → se ≡ session_at w i
@@ -16,20 +20,22 @@ closed w x i se none e n s = rw (e, n, s)
 pub returns-in-Refused : goal.returns-in-Refused
 unfolding close_of
 returns-in-Refused c =
-    let told = c in
-    refuses _ _ _ _ _ ((guarded_at told).refuses [] _ _ told.in-Refused.is) (c.refuse.ensures _)
+    let w = world_of c.args.b c.args.memory.now in
+    let o : length c.args.b.sessions ≡ 16 = search rules in
+    let g = session_guarded c.args.store.now w c.args.i _ o _ c.session_at-se.ensures c.guard-v.ensures in
+    refuses _ _ _ _ _ (g.refuses [] _ _ c.in-Refused.is) (c.refuse.ensures _)
 
 pub clear-out-requires : goal.clear-out-requires
 clear-out-requires c =
-    let told = c in
-    let g = (guarded_at told).goes told.in_default.is in
+    let w = world_of c.args.b c.args.memory.now in
+    let o : length c.args.b.sessions ≡ 16 = search rules in
+    let g = (session_guarded c.args.store.now w c.args.i _ o _ c.session_at-se.ensures c.guard-v.ensures).goes c.in_default.is in
     (omega (arith, g.low), omega (arith, g.session.inside))
 
 pub returns : goal.returns
 unfolding close_of
 returns c =
-    let clearing = c in
-    let told = clearing in
-    let guard = told in
-    accepts _ _ _ ((guarded_at guard).goes told.in_default.is).passes
-    (closed (world guard) _ _ _ _ clearing.clear-out.ensures clearing.no_session_lem.ensures guard.session_at-se.ensures)
+    let w = world_of c.args.b c.args.memory.now in
+    let o : length c.args.b.sessions ≡ 16 = search rules in
+    let g = session_guarded c.args.store.now w c.args.i _ o _ c.session_at-se.ensures c.guard-v.ensures in
+    accepts _ _ _ (g.goes c.in_default.is).passes (closed w _ _ _ _ c.clear-out.ensures c.no_session.ensures c.session_at-se.ensures)

@@ -2,4 +2,4 @@
 use Rattle.entry_new.proofs.empty.Goals as goal
 
 pub returns : goal.returns
-returns c = rw (c.no_slot-slot.ensures, c.no_session_lem.ensures)
+returns c = rw (c.no_slot-slot.ensures, c.no_session-session.ensures)
