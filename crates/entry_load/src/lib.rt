@@ -1,6 +1,7 @@
 // Loading a slot with a part of the store.
 // Above: `bench`, by which programs call it. Below: entry (the guard), sound, and checks for 1 to 8.
 #![tactic(auto)]
+
 ghost use Rattle.std.specs.Prelude.{◌≡◌, ◌≤◌, set};
 ghost use Rattle.sound.specs.Bench.{world_of, at_slots};
 ghost use Rattle.entry.specs.Answer.{result_of};
