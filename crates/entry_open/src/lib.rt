@@ -1,6 +1,7 @@
 // Opening a session: the lowest unused record, the lowest gap that fits, every word of it zero, and a window of the shared words.
 // Above: `bench`, by which programs call it. Below: gaps, entry (the guard, and words set to zero), session for the start, sound.
 #![tactic(auto)]
+
 ghost use Rattle.std.specs.Prelude.{◌≡◌};
 ghost use Rattle.sound.specs.Bench.{world_of};
 ghost use Rattle.entry.specs.Answer.{result_of};

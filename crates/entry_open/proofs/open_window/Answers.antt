@@ -1,19 +1,24 @@
 -- `entry_open::open_window` meets its contract.
-use borrow.Author.Tests.{le-leb, lt-leb, not-true}
-use mathlib.Core.Bool.{Bool, ◌&&◌}
-use mathlib.Core.List.{List}
+use borrow.Author.Rules.{rules}
+use borrow.Author.Tests.{le-leb, lt-leb}
+use lib.ListN.{length}
+use mathlib.Core.Bool.{Bool, true, ◌&&◌}
+use mathlib.Core.List.{List, ◌∷◌, ◌++◌}
 use mathlib.Core.Path.{◌≡◌, sym, ap, ◌∙◌}
 use native.Mathlib.Omega.{arith}
-use Prim.Native.Nat.{ℕ}
+use Prim.Native.Nat.{ℕ, ◌≤◌}
+use Rattle.basis.specs.Checks.{Check, check, Ruling, ruling}
 use Rattle.sound.specs.declared.Session.{Session}
+use Rattle.sound.specs.declared.Slot.{Slot}
 use Rattle.sound.specs.declared.Window.{Window}
 use Rattle.sound.specs.Below.{Cpu, start_of}
-use Rattle.sound.specs.Bench.{World, fresh}
+use Rattle.sound.specs.Bench.{World, world_of, slot_at, code_of, fresh}
 use Rattle.sound.specs.Sound.{inside_shared}
 use Rattle.entry.specs.declared.Gap.TheVariants.{At}
 use Rattle.entry.specs.Answer.{done}
-use Rattle.entry.specs.Entries.{len_ok, record_for, gap_for, found, place_in, cleared, opens, window_open_of}
+use Rattle.entry.specs.Entries.{begins, loaded_at, len_ok, record_for, gap_for, found, place_in, cleared, opens, window_open_of}
 use Rattle.entry.proofs.Refusing.{none_left, passed_first, fails, holds, refuses, accepts}
+use Rattle.entry.proofs.Starts.{Begun, slot_guarded}
 use Rattle.entry_open.proofs.Lowest.{found_inside}
 use Rattle.entry_open.proofs.open_window.Goals as goal
 
@@ -31,54 +36,96 @@ judged : (l i r : Bool) (code code' : List ℕ) (len s : ℕ) (v : Window) → r
     → r ≡ (len_ok code' len && inside_shared s v)
 judged l i r code code' len s v er el ei ec = rw (er, el, ei, ec)
 
+module _ (store : List ℕ) (w : World) (slot : ℕ) where
+  -- the slot's code
+  coded : {sl : Slot} {code : List ℕ} → sl ≡ slot_at w.bench.slots slot → code ≡ code_of store sl → code ≡ code_of store (slot_at w.bench.slots slot)
+  coded e h = h ∙ ap (code_of store) e
+
+  -- past 13
+  past_13 : (len : ℕ) (v : Window) {r : Bool} → Begun store w (loaded_at w slot)
+      → r ≡ (len_ok (code_of store (slot_at w.bench.slots slot)) len && inside_shared w.bench.s v)
+      → r ≡ true
+      → (ds : List Check) (q : Ruling)
+      → ruling ds ≡ q
+      → ruling (begins store w (loaded_at w slot) ++ (check 13 0 (len_ok (code_of store (slot_at w.bench.slots slot)) len && inside_shared w.bench.s v) ∷ ds)) ≡ q
+  past_13 len v g e t ds q h = passed_first _ _ _ g.passes (holds _ _ _ _ _ (sym e ∙ t) h)
+
+-- ---- what the code asks
+
 pub returns-in-Refused : goal.returns-in-Refused
 unfolding window_open_of
 returns-in-Refused c =
-    let told = c in
-    refuses _ _ _ _ _ ((guarded_at told).refuses _ _ _ told.in-Refused.is) (c.refuse.ensures _)
+    let w = world_of c.args.b c.args.memory.now in
+    let o : length c.args.b.slots ≡ 16 = search rules in
+    let v = slot_guarded c.args.store.now w c.args.slot _ o _ c.slot_at-sl.ensures c.guard-v.ensures in
+    refuses _ _ _ _ _ (v.refuses _ _ _ c.in-Refused.is) (c.refuse.ensures _)
 
 pub returns-then-not-both : goal.returns-then-not-both
 unfolding window_open_of
 returns-then-not-both c =
-    let sizes = c in
-    refuses _ _ _ _ _ (passed_first _ _ _ (begun_at (sized-at sizes)).passes (fails _ _ _ _ (sym (sizes_are sizes) ∙ not-true _ c.if-not-both.true)))
+    let w = world_of c.args.b c.args.memory.now in
+    let o : length c.args.b.slots ≡ 16 = search rules in
+    let v = slot_guarded c.args.store.now w c.args.slot _ o _ c.slot_at-sl.ensures c.guard-v.ensures in
+    let g = v.goes c.in_default.is in
+    let code = coded c.args.store.now w c.args.slot c.slot_at-sl.ensures c.code_of-code.ensures in
+    let sizes = judged _ _ _ _ _ c.args.len c.args.b.s c.args.window c.both.ensures c.len_ok.ensures c.ends_by-inside.ensures code in
+    refuses _ _ _ _ _ (passed_first _ _ _ g.passes (fails _ _ _ _ (sym sizes ∙ c.if-not-both.true)))
     (c.refuse-then-not-both.ensures _)
 
 pub returns-then-i-gt15 : goal.returns-then-i-gt15
 unfolding window_open_of
 returns-then-i-gt15 c =
-    let searched = c in
-    refuses _ _ _ _ _ (past_13 searched _ _ (fails _ _ _ _ (lt-leb _ 15 (rw searched.first_unused-i.ensures at c.if-i-gt15.true))))
+    let w = world_of c.args.b c.args.memory.now in
+    let o : length c.args.b.slots ≡ 16 = search rules in
+    let v = slot_guarded c.args.store.now w c.args.slot _ o _ c.slot_at-sl.ensures c.guard-v.ensures in
+    let g = v.goes c.in_default.is in
+    let code = coded c.args.store.now w c.args.slot c.slot_at-sl.ensures c.code_of-code.ensures in
+    let sizes = judged _ _ _ _ _ c.args.len c.args.b.s c.args.window c.both.ensures c.len_ok.ensures c.ends_by-inside.ensures code in
+    let past = past_13 c.args.store.now w c.args.slot c.args.len c.args.window g sizes c.if-not-both.false in
+    refuses _ _ _ _ _ (past _ _ (fails _ _ _ _ (lt-leb _ 15 (rw c.first_unused-i.ensures at c.if-i-gt15.true))))
     (c.refuse-then-i-gt15.ensures _)
 
 pub gap_for-gap-requires : goal.gap_for-gap-requires
-gap_for-gap-requires c = let g = begun_at (sized-at (sized c)) in (g.limits.words, g.places)
+gap_for-gap-requires c =
+    let w = world_of c.args.b c.args.memory.now in
+    let o : length c.args.b.slots ≡ 16 = search rules in
+    let v = slot_guarded c.args.store.now w c.args.slot _ o _ c.slot_at-sl.ensures c.guard-v.ensures in
+    let g = v.goes c.in_default.is in (g.limits.words, g.places)
 
 pub clear-out-requires : goal.clear-out-requires
 clear-out-requires c =
-    let told = c in
-    let gapped = told in
-    let g = begun_at (sized-at (sized gapped)) in
-    let f = found_inside _ _ _ _ _ (sym gapped.gap_for-gap.ensures ∙ told.in-At.is) in
-    (omega arith, omega (arith, g.long))
+    let w = world_of c.args.b c.args.memory.now in
+    let o : length c.args.b.slots ≡ 16 = search rules in
+    let v = slot_guarded c.args.store.now w c.args.slot _ o _ c.slot_at-sl.ensures c.guard-v.ensures in
+    let g = v.goes c.in_default.is in
+    let f = found_inside _ _ _ _ _ (sym c.gap_for-gap.ensures ∙ c.in-At.is) in
+    (omega arith, omega (arith, f, g.long))
 
 pub returns-in-At : goal.returns-in-At
 unfolding window_open_of
 returns-in-At c =
-    let clearing = c in
-    let made = clearing in
-    let told = made in
-    let gapped = told in
-    let left = gapped in
-    let gap = sym gapped.gap_for-gap.ensures ∙ told.in-At.is in
-    accepts _ _ _ (past_13 (sized left) _ _ (holds _ _ _ _ _ (le-leb _ 15 (left_at left)) (holds _ _ _ _ _ (ap found gap) none_left)))
-    (opened _ _ _ _ _ _ _ _ _ _ _ clearing.clear-out.ensures made.fresh-se.ensures made.start_cpu.ensures (coded_at (sized-at (sized left)))
-    left.first_unused-i.ensures gap)
+    let w = world_of c.args.b c.args.memory.now in
+    let o : length c.args.b.slots ≡ 16 = search rules in
+    let v = slot_guarded c.args.store.now w c.args.slot _ o _ c.slot_at-sl.ensures c.guard-v.ensures in
+    let g = v.goes c.in_default.is in
+    let code = coded c.args.store.now w c.args.slot c.slot_at-sl.ensures c.code_of-code.ensures in
+    let sizes = judged _ _ _ _ _ c.args.len c.args.b.s c.args.window c.both.ensures c.len_ok.ensures c.ends_by-inside.ensures code in
+    let past = past_13 c.args.store.now w c.args.slot c.args.len c.args.window g sizes c.if-not-both.false in
+    let left : record_for w ≤ 15 = rw c.first_unused-i.ensures at c.if-i-gt15.false in
+    let gap = sym c.gap_for-gap.ensures ∙ c.in-At.is in
+    accepts _ _ _ (past _ _ (holds _ _ _ _ _ (le-leb _ 15 left) (holds _ _ _ _ _ (ap found gap) none_left)))
+    (opened _ _ _ _ _ _ _ _ _ _ _ c.clear-out.ensures c.fresh-se.ensures c.start_cpu.ensures code c.first_unused-i.ensures gap)
 
 pub returns-in-Full : goal.returns-in-Full
 unfolding window_open_of
 returns-in-Full c =
-    let gapped = c in
-    let left = gapped in
-    let full = sym gapped.gap_for-gap.ensures ∙ c.in-Full.is in
-    refuses _ _ _ _ _ (past_13 (sized left) _ _ (holds _ _ _ _ _ (le-leb _ 15 (left_at left)) (fails _ _ _ _ (ap found full)))) (c.refuse-in-Full.ensures _)
+    let w = world_of c.args.b c.args.memory.now in
+    let o : length c.args.b.slots ≡ 16 = search rules in
+    let v = slot_guarded c.args.store.now w c.args.slot _ o _ c.slot_at-sl.ensures c.guard-v.ensures in
+    let g = v.goes c.in_default.is in
+    let code = coded c.args.store.now w c.args.slot c.slot_at-sl.ensures c.code_of-code.ensures in
+    let sizes = judged _ _ _ _ _ c.args.len c.args.b.s c.args.window c.both.ensures c.len_ok.ensures c.ends_by-inside.ensures code in
+    let past = past_13 c.args.store.now w c.args.slot c.args.len c.args.window g sizes c.if-not-both.false in
+    let left : record_for w ≤ 15 = rw c.first_unused-i.ensures at c.if-i-gt15.false in
+    let full = sym c.gap_for-gap.ensures ∙ c.in-Full.is in
+    refuses _ _ _ _ _ (past _ _ (holds _ _ _ _ _ (le-leb _ 15 left) (fails _ _ _ _ (ap found full)))) (c.refuse-in-Full.ensures _)

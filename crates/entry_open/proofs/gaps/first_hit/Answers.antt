@@ -11,12 +11,10 @@ pub loop-i-init : goal.loop-i-init
 loop-i-init c = (omega arith, omega arith)
 
 pub returns-then-not-is_clear : goal.returns-then-not-is_clear
-returns-then-not-is_clear c = let at = c in
-    first_found _ _ at.loop-i.i (search rules) at.loop-i.invariant.1 _ (omega arith) (sym (ap not c.is_clear.ensures) ∙ c.if-not-is_clear.true)
+returns-then-not-is_clear c = first_found _ _ c.loop-i.i (search rules) c.loop-i.invariant.1 _ (omega arith) (ap not (sym c.is_clear.ensures ∙ c.if-not-is_clear.true))
 
 pub loop-i-preserved : goal.loop-i-preserved
-loop-i-preserved c = let at = c in
-    (omega arith, first_next _ _ at.loop-i.i (search rules) at.loop-i.invariant.1 _ (omega arith) (sym (ap not c.is_clear.ensures) ∙ c.if-not-is_clear.false))
+loop-i-preserved c = (omega arith, first_next _ _ c.loop-i.i (search rules) c.loop-i.invariant.1 _ (omega arith) (ap not (sym c.is_clear.ensures ∙ c.if-not-is_clear.false)))
 
 pub returns : goal.returns
 returns c = first_none _ _ c.loop-i.i (search rules) c.loop-i.invariant.1 (omega arith)

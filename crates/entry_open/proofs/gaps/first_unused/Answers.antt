@@ -9,12 +9,10 @@ pub loop-i-init : goal.loop-i-init
 loop-i-init c = (omega arith, omega arith)
 
 pub returns-then-not-se : goal.returns-then-not-se
-returns-then-not-se c = let at = c in
-    first_found _ _ at.loop-i.i (search rules) at.loop-i.invariant.1 _ (omega arith) c.if-not-se.true
+returns-then-not-se c = first_found _ _ c.loop-i.i (search rules) c.loop-i.invariant.1 _ (omega arith) c.if-not-se.true
 
 pub loop-i-preserved : goal.loop-i-preserved
-loop-i-preserved c = let at = c in
-    (omega arith, first_next _ _ at.loop-i.i (search rules) at.loop-i.invariant.1 _ (omega arith) c.if-not-se.false)
+loop-i-preserved c = (omega arith, first_next _ _ c.loop-i.i (search rules) c.loop-i.invariant.1 _ (omega arith) c.if-not-se.false)
 
 pub returns : goal.returns
 returns c = first_none _ _ c.loop-i.i (search rules) c.loop-i.invariant.1 (omega arith)
