@@ -1,6 +1,7 @@
 // A turn of one session: up to k steps of the machine on its region.
 // Above: `bench`, by which programs call it. Below: entry (the guard, and the record's writing), session for the run, sound.
 #![tactic(auto)]
+
 ghost use Rattle.std.specs.Prelude.{◌≡◌, ◌≤◌};
 ghost use Rattle.sound.specs.Bench.{world_of};
 ghost use Rattle.entry.specs.Answer.{result_of};

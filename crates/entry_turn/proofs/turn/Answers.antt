@@ -1,8 +1,9 @@
 -- `entry_turn::turn` meets its contract.
+use borrow.Author.Rules.{rules}
 use borrow.Author.Tests.{le-leb, lt-leb}
 use lib.ListN.{length, set}
 use mathlib.Core.List.{List}
-use mathlib.Core.Path.{◌≡◌}
+use mathlib.Core.Path.{◌≡◌, ap, ◌∙◌}
 use native.Mathlib.Omega.{arith}
 use Prim.Native.Nat.{ℕ, ◌+◌, ◌-◌, ◌≤◌}
 use Rattle.basis.specs.Part.{part}
@@ -18,6 +19,7 @@ use Rattle.entry.specs.declared.Answer.TheVariants.{Done}
 use Rattle.entry.specs.Answer.{done}
 use Rattle.entry.specs.Entries.{done_of, ran_of, put, turn_of}
 use Rattle.entry.proofs.Refusing.{none_left, passed_first, fails, holds, refuses, accepts}
+use Rattle.entry.proofs.Starts.{session_guarded}
 use Rattle.entry_turn.proofs.turn.Goals as goal
 
 few_done : (code m : List ℕ) (f n base e k : ℕ) (c : Cpu) (r : Turned) (m' : List ℕ) → RanTo code m f n base e k c r m' → k ≤ 65535 → r.done ≤ 65535
@@ -39,48 +41,64 @@ module _ (store : List ℕ) (w : World) (i k : ℕ) where
       let t' = rw (ec, es) at t in
       rw (ea, eb, en, es, t'.done, t'.cpu, t'.mem, seen)
 
+-- ---- what the code asks
 
 pub returns-in-Refused : goal.returns-in-Refused
 unfolding turn_of
 returns-in-Refused c =
-    let told = c in
-    refuses _ _ _ _ _ ((guarded_at told).refuses _ _ _ told.in-Refused.is) (c.refuse.ensures _)
+    let w = world_of c.args.b c.args.memory.now in
+    let o : length c.args.b.sessions ≡ 16 = search rules in
+    let g = session_guarded c.args.store.now w c.args.i _ o _ c.session_at-se.ensures c.guard-v.ensures in
+    refuses _ _ _ _ _ (g.refuses _ _ _ c.in-Refused.is) (c.refuse.ensures _)
 
 pub returns-then-k-gt65535 : goal.returns-then-k-gt65535
 unfolding turn_of
 returns-then-k-gt65535 c =
-    refuses _ _ _ _ _ (passed_first _ _ _ (going_at c).passes (fails _ _ _ _ (lt-leb _ 65535 c.if-k-gt65535.true)))
-    (c.refuse-then-k-gt65535.ensures _)
+    let w = world_of c.args.b c.args.memory.now in
+    let o : length c.args.b.sessions ≡ 16 = search rules in
+    let g = (session_guarded c.args.store.now w c.args.i _ o _ c.session_at-se.ensures c.guard-v.ensures).goes c.in_default.is in
+    refuses _ _ _ _ _ (passed_first _ _ _ g.passes (fails _ _ _ _ (lt-leb _ 65535 c.if-k-gt65535.true))) (c.refuse-then-k-gt65535.ensures _)
 
 pub overflow_add-end : goal.overflow_add-end
-overflow_add-end c = omega (arith, (going_at (few-at c)).session.inside)
+overflow_add-end c =
+    let w = world_of c.args.b c.args.memory.now in
+    let o : length c.args.b.sessions ≡ 16 = search rules in
+    let g = (session_guarded c.args.store.now w c.args.i _ o _ c.session_at-se.ensures c.guard-v.ensures).goes c.in_default.is in
+    omega (arith, g.session.inside)
 
 pub run-ran-requires : goal.run-ran-requires
 run-ran-requires c =
-    let coded = c in
-    let g = going_at (few-at coded) in
+    let w = world_of c.args.b c.args.memory.now in
+    let o : length c.args.b.sessions ≡ 16 = search rules in
+    let g = (session_guarded c.args.store.now w c.args.i _ o _ c.session_at-se.ensures c.guard-v.ensures).goes c.in_default.is in
     let f = g.session in
-    let se = (guard-at coded).session_at-se.result in
+    let se = c.session_at-se.result in
     let l : se.base + se.len - se.base ≡ se.len = omega arith in
-    rw (coded_at coded, l) (f.checked, (f.cpu_ok_lem, (f.most, omega (arith, f.seen, g.few), omega (arith, f.seen, f.above), omega arith, f.inside)))
+    rw (c.code_of-code.ensures ∙ ap (code_of _) c.slot_at-sl.ensures, l)
+    (record {
+      code_value = f.checked;
+      cpu_value = f.cpu_ok_lem;
+      base_bound = (f.most, omega (arith, f.seen, g.few), omega (arith, f.seen, f.above), omega arith, f.inside);
+    })
 
 pub with_session-out-requires : goal.with_session-out-requires
-with_session-out-requires c = (going_at (few-at c)).low
+with_session-out-requires c =
+    let w = world_of c.args.b c.args.memory.now in
+    let o : length c.args.b.sessions ≡ 16 = search rules in
+    ((session_guarded c.args.store.now w c.args.i _ o _ c.session_at-se.ensures c.guard-v.ensures).goes c.in_default.is).low
 
 pub steps_done-answer-requires : goal.steps_done-answer-requires
 steps_done-answer-requires c =
-    let running = c in
-    let few = (few-at running).if-k-gt65535.false in
-    let done = few_done _ _ _ _ _ _ _ _ _ _ running.run-ran.ensures (omega (arith, few)) in
+    let few = c.if-k-gt65535.false in
+    let done = few_done _ _ _ _ _ _ _ _ _ _ c.run-ran.ensures (omega (arith, few)) in
     omega (arith, few, done)
 
 pub returns : goal.returns
 unfolding turn_of
 returns c =
-    let stored = c in
-    let running = stored in
-    let coded = running in
-    let few = few-at coded in
-    accepts _ _ _ (passed_first _ _ _ (going_at few).passes (holds _ _ _ _ _ (le-leb _ 65535 few.if-k-gt65535.left) none_left))
-    (ran _ (world (guard-at coded)) _ _ _ _ _ running.run-ran.result _ _ _ (guard-at coded).session_at-se.ensures (coded_at coded)
-    (going_at few).session running.run-ran.ensures stored.at.ensures stored.with_session-out.ensures c.steps_done-answer.ensures)
+    let w = world_of c.args.b c.args.memory.now in
+    let o : length c.args.b.sessions ≡ 16 = search rules in
+    let g = (session_guarded c.args.store.now w c.args.i _ o _ c.session_at-se.ensures c.guard-v.ensures).goes c.in_default.is in
+    accepts _ _ _ (passed_first _ _ _ g.passes (holds _ _ _ _ _ (le-leb _ 65535 c.if-k-gt65535.false) none_left))
+    (ran _ w _ _ _ _ _ c.run-ran.result _ _ _ c.session_at-se.ensures (c.code_of-code.ensures ∙ ap (code_of _) c.slot_at-sl.ensures)
+    g.session c.run-ran.ensures c.at.ensures c.with_session-out.ensures c.steps_done-answer.ensures)
