@@ -4,6 +4,7 @@
 // Where input is not as docs/CASES.md says: a line of 65,536 bytes or more is a remark; more words or bytes than there are cannot be lent,
 // and that line is ignored.
 #![tactic(auto)]
+
 mod input;
 mod world;
 

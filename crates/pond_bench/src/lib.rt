@@ -4,6 +4,7 @@
 //
 // A bench goes in by value and comes back. The memory is the bench's own words and no others; the store has 65,536 bytes for each slot.
 #![tactic(auto)]
+
 mod sessions;
 pub mod turns;
 

@@ -44,14 +44,7 @@ pub fn script(rt: &HostRuntime) {
     if typed {
         pond_typed::welcome();
     }
-    let status = lines(
-        rt,
-        first_bench(),
-        &mut memory,
-        &mut store,
-        &mut book,
-        typed,
-    );
+    let status = lines(rt, first_bench(), &mut memory, &mut store, &mut book, typed);
     if typed {
         pond_say::end();
     }

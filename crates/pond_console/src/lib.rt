@@ -4,6 +4,7 @@
 // The last line of a command that was refused begins with `refused`, of one whose session has faulted with `fault`, and of
 // one that could not be followed, as where a file cannot be read, with `cannot`; no other line begins so.
 #![tactic(auto)]
+
 mod input;
 
 pub use input::script;

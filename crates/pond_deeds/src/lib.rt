@@ -1,6 +1,7 @@
 // The commands on the console's bench done: each is one function of `pond_slots`, `pond_archive`, `pond_bench`, `pond_closer` or `pond_save`, which asks the bench.
 // Above it: the console. Below it: the words of the commands, which say what is to be done.
 #![tactic(auto)]
+
 use pond_bench::{Next, Wanted};
 use pond_rows::row;
 use pond_say::Outcome;

@@ -2,6 +2,7 @@
 // file, and what it prints is what the same commands print on the files of examples/.
 // Above it: the console. Below it: the other commands, as they are: a line is shown, and then done.
 #![tactic(auto)]
+
 mod bytes;
 mod lines;
 
@@ -169,14 +170,7 @@ fn farm(k: u8) -> u16 {
     12
 }
 
-fn ran(
-    rt: &HostRuntime,
-    b: Bench,
-    memory: &mut [u16],
-    store: &[u8],
-    book: &[u8],
-    k: u8,
-) -> Bench {
+fn ran(rt: &HostRuntime, b: Bench, memory: &mut [u16], store: &[u8], book: &[u8], k: u8) -> Bench {
     let next = pond_bench::turn(rt, b, memory, store, book, whose(k) as u64, steps(k));
     next.bench
 }

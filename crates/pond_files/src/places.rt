@@ -5,10 +5,9 @@ ghost use Rattle.std.specs.Prelude.{◌≡◌, ◌&&◌, not};
 
 use crate::errors::ENOENT;
 use crate::reads::{failure, name};
-use std::fs;
 use std::fs::{File, OpenOptions};
-use std::io;
 use std::io::{Seek, SeekFrom};
+use std::{fs, io};
 
 // What is done about a name.
 #[derive(Clone, Copy)]

@@ -4,10 +4,9 @@
 use crate::errors::{ENAMETOOLONG, cannot, cannot_be};
 use crate::places::{Place, asked, update};
 use crate::reads::{failure, name};
-use std::fs;
 use std::fs::{File, OpenOptions};
-use std::io;
 use std::io::{Seek, SeekFrom, Write};
+use std::{fs, io};
 
 // Writes the file, or says why it cannot.
 pub fn write(rt: &HostRuntime, path: &[u8], bytes: &[u8]) -> bool {

@@ -57,15 +57,7 @@ fn with(
     if !got.ok {
         return Outcome::File;
     }
-    sized(
-        rt,
-        file,
-        seg,
-        size,
-        archive,
-        front(&room, got.count),
-        view,
-    )
+    sized(rt, file, seg, size, archive, front(&room, got.count), view)
 }
 
 // The bytes of the archive's words: those of the file, or those of its records.
@@ -92,7 +84,16 @@ fn sized(
     match size {
         Size::Usual => alone(rt, file, seg, usual(seg), STEPS, archive, bytes, view),
         Size::Words(words) => alone(rt, file, seg, words as usize, STEPS, archive, bytes, view),
-        Size::Both(words, steps) => alone(rt, file, seg, words as usize, steps, archive, bytes, view),
+        Size::Both(words, steps) => alone(
+            rt,
+            file,
+            seg,
+            words as usize,
+            steps,
+            archive,
+            bytes,
+            view,
+        ),
     }
 }
 

@@ -1,6 +1,7 @@
 // `save SESSION FILE`: a session's words as text that a spreadsheet reads: a line of names, and one for each word, with commas between.
 // Above it: the words of the commands. Below it: files, and what can be seen of a bench.
 #![tactic(auto)]
+
 ghost use Rattle.std.specs.Prelude.{◌≤◌};
 
 use pond_look::{refusals, told};

@@ -1,6 +1,7 @@
 // How the console speaks: text, numbers, columns and the bytes of a name, all to standard output; and how a command went.
 // Above it: every command. Below it: `text` and `io`. No contract can say what is written, so none here does.
 #![tactic(auto)]
+
 ghost use Rattle.std.specs.Prelude.{◌≤◌};
 
 mod marks;

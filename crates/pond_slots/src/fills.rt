@@ -13,13 +13,7 @@ fn space() -> [u8; 65538] {
     [0u8; 65538]
 }
 
-pub fn fill(
-    rt: &HostRuntime,
-    b: Bench,
-    memory: &mut [u16],
-    book: &[u8],
-    file: &[u8],
-) -> Outcome {
+pub fn fill(rt: &HostRuntime, b: Bench, memory: &mut [u16], book: &[u8], file: &[u8]) -> Outcome {
     if pond_windows::held(b, book) {
         return Outcome::Typing;
     }

@@ -3,6 +3,7 @@
 // behind that line, stops at its first failure: two farms, and one of them has a mistyped file. What is not in `stdout` was not done.
 // Everything is said and done in `pond_console`, as in the program `pond`.
 #![tactic(auto)]
+
 fn main(rt: HostRuntime) {
     pond_console::arguments(&rt);
     pond_console::script(&rt);
