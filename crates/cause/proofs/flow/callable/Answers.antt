@@ -17,18 +17,14 @@ returns-then-is_outside c =
 
 pub returns-then-r-eq0 : goal.returns-then-r-eq0
 returns-then-r-eq0 c =
-    let read = c in
-    let asked = read in
-    let a = asked.args in
-    let is : read.routine_of-r.result.entry ≡ entry a.seg.now a.k = ap (λ (r : Routine). r.entry) read.routine_of-r.ensures in
-    let there : (leb 1 a.k && leb a.k a.n.count) ≡ true = not-false _ (sym asked.is_outside.ensures ∙ asked.if-is_outside.false) in
+    let a = c.args in
+    let is : c.routine_of-r.result.entry ≡ entry a.seg.now a.k = ap (λ (r : Routine). r.entry) c.routine_of-r.ensures in
+    let there : (leb 1 a.k && leb a.k a.n.count) ≡ true = not-false _ (sym c.is_outside.ensures ∙ c.if-is_outside.false) in
     rw (there, linked_none a.seg.now a.k (sym is ∙ c.if-r-eq0.true))
 
 pub returns : goal.returns
 returns c =
-    let read = c in
-    let asked = read in
-    let a = asked.args in
-    let is : read.routine_of-r.result.entry ≡ entry a.seg.now a.k = ap (λ (r : Routine). r.entry) read.routine_of-r.ensures in
-    let there : (leb 1 a.k && leb a.k a.n.count) ≡ true = not-false _ (sym asked.is_outside.ensures ∙ asked.if-is_outside.false) in
+    let a = c.args in
+    let is : c.routine_of-r.result.entry ≡ entry a.seg.now a.k = ap (λ (r : Routine). r.entry) c.routine_of-r.ensures in
+    let there : (leb 1 a.k && leb a.k a.n.count) ≡ true = not-false _ (sym c.is_outside.ensures ∙ c.if-is_outside.false) in
     rw (there, linked_some a.seg.now a.k (omega (arith, is, c.if-r-eq0.false)))

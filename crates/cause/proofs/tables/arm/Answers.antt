@@ -19,9 +19,8 @@ returns-then-h-at c =
 pub returns : goal.returns
 unfolding arm_fault word
 returns c =
-    let read = c in
-    let a = read.args in
-    let h = read.head-h in
+    let a = c.args in
+    let h = c.head-h in
     let ends = ap (λ (x : Segment). x.reals) h.ensures in
-    let is = read.word_at.ensures ∙ ap (λ (l : Bool). word_by l a.seg.now a.at) (ap (λ (x : Segment). x.least) h.ensures) in
-    rw (c.led.ensures, c.leads_to.ensures, is, lt-ltb a.at (real_pool a.seg.now) (omega (arith, ends, read.if-h-at.false)))
+    let is = c.word_at.ensures ∙ ap (λ (l : Bool). word_by l a.seg.now a.at) (ap (λ (x : Segment). x.least) h.ensures) in
+    rw (c.led.ensures, c.leads_to.ensures, is, lt-ltb a.at (real_pool a.seg.now) (omega (arith, ends, c.if-h-at.false)))

@@ -11,49 +11,38 @@ returns-then-h-eq0 c =
 
 pub returns-then-h-at : goal.returns-then-h-at
 returns-then-h-at c =
-    let first = c in
-    let a = first.args in
-    let h = first.head-h in
-    high a.seg.now a.b a.next a.i h.result h.ensures first.if-h-eq0.false c.if-h-at.true
+    let a = c.args in
+    let h = c.head-h in
+    high a.seg.now a.b a.next a.i h.result h.ensures c.if-h-eq0.false c.if-h-at.true
 
 pub returns-then-leq-ne1 : goal.returns-then-leq-ne1
 returns-then-leq-ne1 c =
-    let fit = c in
-    let first = fit in
-    let a = first.args in
-    let h = first.head-h in
+    let a = c.args in
+    let h = c.head-h in
     let low = c.word_at-low in
     let from = c.leq in
-    below a.seg.now a.b a.next a.i h.result h.ensures first.if-h-eq0.false fit.if-h-at.false low.result from.result low.ensures from.ensures
+    below a.seg.now a.b a.next a.i h.result h.ensures c.if-h-eq0.false c.if-h-at.false low.result from.result low.ensures from.ensures
     c.if-leq-ne1.true
 
 pub returns-then-leq-ne1-2 : goal.returns-then-leq-ne1-2
 returns-then-leq-ne1-2 c =
-    let up = c in
-    let fit = up in
-    let first = fit in
-    let a = first.args in
-    let h = first.head-h in
-    let low = up.word_at-low in
-    let from = up.leq in
+    let a = c.args in
+    let h = c.head-h in
+    let low = c.word_at-low in
+    let from = c.leq in
     let top = c.word_at-high in
     let to = c.leq-2 in
-    above a.seg.now a.b a.next a.i h.result h.ensures first.if-h-eq0.false fit.if-h-at.false low.result from.result low.ensures from.ensures
-    up.if-leq-ne1.false top.result to.result top.ensures to.ensures c.if-leq-ne1-2.true
+    above a.seg.now a.b a.next a.i h.result h.ensures c.if-h-eq0.false c.if-h-at.false low.result from.result low.ensures from.ensures
+    c.if-leq-ne1.false top.result to.result top.ensures to.ensures c.if-leq-ne1-2.true
 
 pub returns : goal.returns
 returns c =
-    let sub = c in
-    let in_range_lem = sub in
-    let up = in_range_lem in
-    let fit = up in
-    let first = fit in
-    let a = first.args in
-    let h = first.head-h in
-    let low = up.word_at-low in
-    let from = up.leq in
-    let top = in_range_lem.word_at-high in
-    let to = in_range_lem.leq-2 in
+    let a = c.args in
+    let h = c.head-h in
+    let low = c.word_at-low in
+    let from = c.leq in
+    let top = c.word_at-high in
+    let to = c.leq-2 in
     c.arm.ensures
-    ∙ chosen a.seg.now a.b a.next a.i h.result h.ensures first.if-h-eq0.false fit.if-h-at.false low.result from.result low.ensures from.ensures
-    up.if-leq-ne1.false top.result to.result top.ensures to.ensures sub.sub.result _ in_range_lem.if-leq-ne1-2.false sub.sub.ensures refl
+    ∙ chosen a.seg.now a.b a.next a.i h.result h.ensures c.if-h-eq0.false c.if-h-at.false low.result from.result low.ensures from.ensures
+    c.if-leq-ne1.false top.result to.result top.ensures to.ensures c.sub.result _ c.if-leq-ne1-2.false c.sub.ensures refl

@@ -25,18 +25,16 @@ overflow_sub-last c = omega (arith, c.if-k-eq0.false)
 
 pub returns-then-last-h : goal.returns-then-last-h
 returns-then-last-h c =
-    let asked = c in
-    let a = asked.args in
-    let h = asked.head-h in
+    let a = c.args in
+    let h = c.head-h in
     let is : h.result.pool ≡ pool a.seg.now = ap (λ (x : Segment). x.pool) h.ensures in
     let ends : h.result.reals ≡ real_pool a.seg.now = ap (λ (x : Segment). x.reals) h.ensures in
-    rw (low_words a.seg.now a.b a.k (λ (z : pool a.seg.now ≡ 0). asked.if-h-eq0.false (is ∙ z)) asked.if-k-eq0.false (omega (arith, is, ends, c.if-last-h.true)))
+    rw (low_words a.seg.now a.b a.k (λ (z : pool a.seg.now ≡ 0). c.if-h-eq0.false (is ∙ z)) c.if-k-eq0.false (omega (arith, is, ends, c.if-last-h.true)))
 
 pub returns : goal.returns
 returns c =
-    let asked = c in
-    let a = asked.args in
-    let h = asked.head-h in
+    let a = c.args in
+    let h = c.head-h in
     let is : h.result.pool ≡ pool a.seg.now = ap (λ (x : Segment). x.pool) h.ensures in
     let ends : h.result.reals ≡ real_pool a.seg.now = ap (λ (x : Segment). x.reals) h.ensures in
-    rw (high_words a.seg.now a.b a.k (λ (z : pool a.seg.now ≡ 0). asked.if-h-eq0.false (is ∙ z)) asked.if-k-eq0.false (omega (arith, is, ends, c.if-last-h.false)))
+    rw (high_words a.seg.now a.b a.k (λ (z : pool a.seg.now ≡ 0). c.if-h-eq0.false (is ∙ z)) c.if-k-eq0.false (omega (arith, is, ends, c.if-last-h.false)))
