@@ -3,7 +3,7 @@
 #![tactic(auto)]
 
 mod chains;
-mod steps;
+mod stepping;
 
-pub use crate::steps::step;
+pub use crate::stepping::step;
 pub use chains::closer;

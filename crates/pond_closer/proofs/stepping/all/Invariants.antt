@@ -1,7 +1,7 @@
 -- `steps::all` is safe and ends. The measure is what is left to go through. Assumes nothing.
 use mathlib.Core.Path.{◌≡◌}
 use lib.ListN.{length}
-use Rattle.pond_closer.proofs.steps.all.Given as goal
+use Rattle.pond_closer.proofs.stepping.all.Given as goal
 
 abbrev pub invariant-loop-left : goal.invariant-loop-left
 invariant-loop-left l = length l.memory ≡ length l.initial.memory

@@ -1,6 +1,6 @@
 -- `steps::words` is safe and ends. The measure is what is left to go through. Assumes nothing.
 use Prim.Native.Nat.{◌-◌}
-use Rattle.pond_closer.proofs.steps.words.Given as goal
+use Rattle.pond_closer.proofs.stepping.words.Given as goal
 
 abbrev pub invariant-loop-k : goal.invariant-loop-k
 invariant-loop-k l = Unit {0}
