@@ -1,6 +1,7 @@
 // Entries of a bench's archive asked many times under a C name, so that speed/ can time them. Nothing else calls it, and it asks nothing of its caller.
 // Below: `archive`, `bench`. It stands apart from `export_bench`, since the compiler shapes the turn's loop there by what else stands beside it.
 #![tactic(auto)]
+
 use archive::Found;
 use bench::{Answer, Bench};
 

@@ -1,6 +1,7 @@
 // Entries of a bench asked many times under a C name, so that speed/ can time them. Nothing else calls it, and it asks nothing of its caller.
 // Below: `bench`. A new entry is timed by one arm of `ask` and one row of the table in speed/entries.c.
 #![tactic(auto)]
+
 use bench::{Answer, Bench, Out};
 
 // One more where the request was not refused: the caller can tell that it timed what it meant to.
