@@ -2,6 +2,7 @@
 // refused; and why it cannot be filled now.
 // Above it: what is told of a fault, and the commands that open sessions, show them and fill the archive. Below it: the archive, the bench's numbers, and the book.
 #![tactic(auto)]
+
 mod holds;
 mod lines;
 mod refusals;
