@@ -1,4 +1,4 @@
--- `steps::all` is safe and ends. The measure is what is left to go through. Assumes nothing.
+-- `stepping::all` is safe and ends. The measure is what is left to go through. Assumes nothing.
 use mathlib.Core.Path.{◌≡◌}
 use lib.ListN.{length}
 use Rattle.pond_closer.proofs.stepping.all.Given as goal

@@ -1,4 +1,4 @@
--- `steps::words` is safe and ends. The measure is what is left to go through. Assumes nothing.
+-- `stepping::words` is safe and ends. The measure is what is left to go through. Assumes nothing.
 use Prim.Native.Nat.{◌-◌}
 use Rattle.pond_closer.proofs.stepping.words.Given as goal
 
