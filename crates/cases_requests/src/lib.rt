@@ -2,6 +2,7 @@
 // Above it: `cases_entries`, which reads the lines. Below it: segments, their turning, the bench and the archive, each asked by its public entry points; and
 // `cases_lines`, which tells an answer. An output longer than the longest is the longest.
 #![tactic(auto)]
+
 use archive::Found;
 use bench::{Answer, Out};
 use cases_lines::numbers::NUMBERS;

@@ -2,6 +2,7 @@
 // had before request 8, fault 2 of an instruction that is carried since request 2, and records that the session's own numbers do not give. `stdout` holds the words.
 // Below it: `pond_why`, as for `show`.
 #![tactic(auto)]
+
 use machine::{Cpu, Kind};
 use plan::Regs;
 use pond_rows::View;
