@@ -17,9 +17,7 @@ use Rattle.entry.specs.Answer.{Result, refused_at}
 use Rattle.entry.specs.Entries.{is_sound, window_open_of}
 use Rattle.entry.proofs.Refusing.{none_left, fails, holds, refuses, accepts}
 use Rattle.archive_records.specs.Records.{accepted}
-use Rattle.archive.specs.declared.Found.{Found}
-use Rattle.archive.specs.declared.Found.TheVariants.{At, Refused}
-use Rattle.archive.specs.Archive.{archive_checks, farm_range, found_by, range_answer, farm_open_of}
+use Rattle.archive.specs.Archive.{Found, At, Refused, archive_checks, farm_range, found_by, range_answer, farm_open_of}
 
 module _ (store : List ℕ) (w : World) where
   pub shared_long : is_sound store w ≡ true → length (shared_of w) ≡ w.bench.s

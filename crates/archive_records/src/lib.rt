@@ -17,18 +17,17 @@ fn farm_at(words: &[u16], r: usize) -> u16
 }
 
 // The first record whose farm number is below that of the record before it; if there is none, the number of records, and 1 of no record.
+// Kept: a number then too, and no Option, since `first_fall`, of which demands' contract and its theorem archive_falls speak, is one.
 pub fn falls_at(words: &[u16]) -> usize
     ensures { result ≡ first_fall words.now (records_in words.now - 1) }
 {
     let n = words.len() / 4;
-    let mut r: usize = 1;
-    while r < n {
+    for r in 1..n {
         if farm_at(words, r) < farm_at(words, r - 1) {
             return r;
         }
-        r += 1;
     }
-    r
+    n.max(1)
 }
 
 // Whether these words are an archive: whole records, whose farm numbers never fall.
@@ -46,15 +45,13 @@ pub fn range_in(words: &[u16], farm: u16) -> Window
     let n = words.len() / 4;
     let mut first: usize = 0;
     let mut count: usize = 0;
-    let mut r: usize = 0;
-    while r < n {
+    for r in 0..n {
         if farm_at(words, r) == farm {
             if count == 0 {
                 first = r;
             }
             count += 1;
         }
-        r += 1;
     }
     Window {
         first: 4 * first,

@@ -1,6 +1,6 @@
 // Small tests, so that a chain of checks is a chain of calls with one promise each; and a part of a slice that needs no bound from the caller.
 // Below: basis, whose laws are cited. Above: the checks of a segment, sessions, the bench and its soundness, and the commands.
-#![tactic(auto)]
+#![tactic(auto, unfolding(basis::specs::Bools::inside))]
 
 ghost use Rattle.std.specs.Prelude.{◌≡◌, ◌&&◌, ◌||◌, ◌+◌, leb, take, drop};
 ghost use Rattle.basis.specs.Bools.{inside};

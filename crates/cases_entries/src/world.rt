@@ -1,100 +1,97 @@
-// The world that the lines are about: a bench, and how many words of memory and bytes of store are lent.
+// The world that the lines are about: a bench, and the words of memory and bytes of store that are lent.
 // Above it: the input, which has the lines. Below it: what a line sets up, and what it asks.
-use cases_lines::numbers::{letter, numbers};
+use cases_lines::numbers::{NUMBERS, letter, low_byte, low_word, numbers};
 use cases_lines::setup;
+use cases_lines::setup::Part;
+use cases_requests::{Entry, Question, Seen};
 use sound::Bench;
 
-#[derive(Clone, Copy)]
-pub struct World {
-    pub bench: Bench,
-    pub words: usize,
-    pub bytes: usize,
+// Words or bytes, the first so many of which are lent.
+#[derive(Drop)]
+struct Lent<'a, T> {
+    all: &'a mut [T],
+    count: usize,
 }
 
-pub fn no_world() -> World {
-    World {
-        bench: setup::no_bench(),
-        words: 0,
-        bytes: 0,
-    }
-}
-
-// Follows a line, and answers the world after it.
-pub fn line(w: World, memory: &mut [u16], store: &mut [u8], text: &[u8]) -> World {
-    let what = letter(text);
-    match what {
-        b'm' => lend_words(w, memory, text),
-        b'c' => lend_bytes(w, store, text),
-        _ => lent(w, memory, store, what, text),
-    }
-}
-
-// Lends the first so many words, all alike. More words than there are do not fit.
-fn lend_words(w: World, memory: &mut [u16], text: &[u8]) -> World {
-    let v = numbers(text);
-    let n = v[0] as usize;
-    if n > memory.len() {
-        return w;
-    }
-    setup::fill_words(&mut memory[0..n], v[1]);
-    let mut out = w;
-    out.words = n;
-    out
-}
-
-fn lend_bytes(w: World, store: &mut [u8], text: &[u8]) -> World {
-    let v = numbers(text);
-    let n = v[0] as usize;
-    if n > store.len() {
-        return w;
-    }
-    setup::fill_bytes(&mut store[0..n], v[1]);
-    let mut out = w;
-    out.bytes = n;
-    out
-}
-
-// Any other line sees only what is lent.
-fn lent(w: World, memory: &mut [u16], store: &mut [u8], what: u8, text: &[u8]) -> World {
-    let n = w.words;
-    let k = w.bytes;
-    if n > memory.len() {
-        return w;
-    }
-    if k > store.len() {
-        return w;
-    }
-    let b = w.bench;
-    let bench = follow(b, &mut memory[0..n], &mut store[0..k], what, text);
-    World {
-        bench,
-        words: n,
-        bytes: k,
-    }
-}
-
-fn follow(b: Bench, memory: &mut [u16], store: &mut [u8], what: u8, text: &[u8]) -> Bench {
-    match what {
-        b'w' => {
-            setup::words(memory, text);
-            b
+impl<T: Copy> Lent<'_, T> {
+    // Lends the first so many, all alike. More than there are do not fit.
+    fn lend(&mut self, count: u64, fill: T) {
+        let n = count as usize;
+        if n <= self.all.len() {
+            self.all[..n].fill_with(|| fill);
+            self.count = n;
         }
-        b'b' => {
-            setup::bytes(store, text);
-            b
+    }
+
+    fn lent(&mut self) -> &mut [T] {
+        let n = self.count.min(self.all.len());
+        &mut self.all[..n]
+    }
+}
+
+#[derive(Drop)]
+pub(crate) struct World<'a> {
+    bench: Bench,
+    memory: Lent<'a, u16>,
+    store: Lent<'a, u8>,
+}
+
+impl<'a> World<'a> {
+    pub(crate) fn new(memory: &'a mut [u16], store: &'a mut [u8]) -> Self {
+        World {
+            bench: setup::no_bench(),
+            memory: Lent {
+                all: memory,
+                count: 0,
+            },
+            store: Lent {
+                all: store,
+                count: 0,
+            },
         }
-        b'z' | b'n' | b's' | b'e' | b'r' => setup::bench(b, what, numbers(text)),
-        b'J' | b'V' | b'Q' | b'A' | b'G' => {
-            cases_requests::look(b, memory, store, what, numbers(text));
-            b
+    }
+
+    // Follows each line of bytes that end with a line's end: behind it the split has one line more, which is empty and so ignored.
+    pub(crate) fn lines(&mut self, bytes: &[u8]) {
+        for text in bytes.split(|b| *b == b'\n') {
+            self.line(text);
         }
-        b'N' | b'L' | b'O' | b'W' | b'F' | b'T' | b'X' => cases_requests::enter(
-            b,
-            memory,
-            store,
-            what,
-            numbers(text),
-        ),
-        _ => b,
+    }
+
+    // Follows a line.
+    pub(crate) fn line(&mut self, text: &[u8]) {
+        let Some(what) = letter(text) else {
+            return;
+        };
+        let v = numbers(text);
+        match what {
+            b'm' => self.memory.lend(v[0], low_word(v[1])),
+            b'c' => self.store.lend(v[0], low_byte(v[1])),
+            b'w' => setup::words(self.memory.lent(), text),
+            b'b' => setup::bytes(self.store.lent(), text),
+            _ => self.follow((what, v)),
+        }
+    }
+
+    // Any other line sets a part of the bench, or asks; a letter of no line is ignored.
+    fn follow(&mut self, line: (u8, [u64; NUMBERS])) {
+        if let Ok(part) = Part::try_from(line) {
+            setup::bench(&mut self.bench, part);
+        } else if let Ok(asked) = Question::try_from(line) {
+            cases_requests::look(&self.seen(), asked);
+        } else if let Ok(asked) = Entry::try_from(line) {
+            let mut seen = self.seen();
+            cases_requests::enter(&mut seen, asked);
+            let bench = seen.bench;
+            self.bench = bench;
+        }
+    }
+
+    fn seen(&mut self) -> Seen<'_> {
+        Seen {
+            bench: self.bench,
+            memory: self.memory.lent(),
+            store: self.store.lent(),
+        }
     }
 }

@@ -1,8 +1,11 @@
 // Digests of numbers, words and bytes.
 // Above it: the requests. Below it: nothing.
+ghost use Rattle.std.specs.Prelude.{◌<◌};
 
 // A digest after one number more, which is taken modulo 2^32.
-pub fn taken(h: u64, x: u64) -> u64 {
+pub fn taken(h: u64, x: u64) -> u64
+    ensures { result < 4294967291 }
+{
     ((h % 4294967296) * 16777619 + x % 4294967296) % 4294967291
 }
 
@@ -11,30 +14,13 @@ pub fn both_halves(h: u64, x: u64) -> u64 {
     taken(taken(h, x), x / 4294967296)
 }
 
-fn word(x: u16) -> u64 {
-    x as u64
-}
-
-fn byte(x: u8) -> u64 {
-    x as u64
-}
-
-pub fn of_words(words: &[u16]) -> u64 {
+// The digest of words, or of bytes.
+pub fn of<T: Copy + Into<u64>>(items: &[T]) -> u64
+    ensures { result < 4294967291 }
+{
     let mut h = 0;
-    let mut i = 0;
-    while i < words.len() {
-        h = taken(h, word(words[i]));
-        i += 1;
-    }
-    h
-}
-
-pub fn of_bytes(bytes: &[u8]) -> u64 {
-    let mut h = 0;
-    let mut i = 0;
-    while i < bytes.len() {
-        h = taken(h, byte(bytes[i]));
-        i += 1;
+    for x in items {
+        h = taken(h, (*x).into());
     }
     h
 }

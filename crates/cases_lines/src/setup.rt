@@ -1,72 +1,111 @@
 // What a line with a small letter sets up: words, bytes, and the parts of the bench. Any numbers may be set, sound or not.
 // Above it: the world. Below it: the numbers of a line, and the types of the bench.
 use crate::numbers;
-use crate::numbers::NUMBERS;
+use crate::numbers::{NUMBERS, low_byte};
 use machine::{Cpu, Kind};
 use plan::Regs;
 use sound::{Bench, Session, Slot, Window};
 
-pub fn fill_words(words: &mut [u16], v: u64) {
-    let x = (v % 65536) as u16;
-    let mut i = 0;
-    while i < words.len() {
-        words[i] = x;
-        i += 1;
-    }
-}
-
-pub fn fill_bytes(bytes: &mut [u8], v: u64) {
-    let x = (v % 256) as u8;
-    let mut i = 0;
-    while i < bytes.len() {
-        bytes[i] = x;
-        i += 1;
-    }
-}
-
 // `w AT V V ..`
 pub fn words(memory: &mut [u16], text: &[u8]) {
-    let at = numbers::first(text);
-    numbers::put_words(numbers::rest(text), memory, at);
+    numbers::put_words(numbers::rest(text), memory, numbers::first(text));
 }
 
 // `b AT PAIRS`
 pub fn bytes(store: &mut [u8], text: &[u8]) {
-    let at = numbers::first(text);
-    numbers::put_bytes(numbers::rest(text), store, at);
+    numbers::put_bytes(numbers::rest(text), store, numbers::first(text));
 }
 
 // No slot loaded, no record used, and no words.
 pub fn no_bench() -> Bench {
-    let slot = sound::no_slot();
-    let session = sound::no_session();
     Bench {
         n: 0,
         s: 0,
-        slots: [slot; 16],
-        sessions: [session; 16],
+        slots: [sound::no_slot(); 16],
+        sessions: [sound::no_session(); 16],
     }
 }
 
-// The bench after a line that sets a part of it.
-pub fn bench(b: Bench, what: u8, v: [u64; NUMBERS]) -> Bench {
-    match what {
-        b'n' => with_sizes(b, v[0], v[1]),
-        b's' => with_slot(b, v[0], slot(v[1], v[2], v[3])),
-        b'e' => with_session(b, v[0], region(record(b, v[0]), v)),
-        b'r' => with_session(b, v[0], registers(record(b, v[0]), v)),
-        _ => no_bench(),
+// What a session's record has besides its registers and its kind.
+#[derive(Clone, Copy)]
+pub struct Region {
+    pub used: bool,
+    pub slot: usize,
+    pub base: usize,
+    pub len: usize,
+    pub window: Window,
+}
+
+// The part of a bench that a line sets. A slot or a record past the last is no part, and is ignored.
+#[derive(Clone, Copy)]
+pub enum Part {
+    Whole,
+    Sizes { n: usize, s: usize },
+    Slot(usize, Slot),
+    Region(usize, Region),
+    Registers(usize, Cpu),
+}
+
+// The letter is of no line that sets a part of the bench.
+#[derive(Clone, Copy)]
+pub struct NoPart;
+
+// A line's letter and its numbers.
+impl TryFrom<(u8, [u64; NUMBERS])> for Part {
+    type Error = NoPart;
+
+    fn try_from(line: (u8, [u64; NUMBERS])) -> Result<Self, NoPart> {
+        let (letter, v) = line;
+        let i = v[0] as usize;
+        Ok(match letter {
+            b'z' => Part::Whole,
+            b'n' => Part::Sizes {
+                n: i,
+                s: v[1] as usize,
+            },
+            b's' => Part::Slot(i, slot_of(v)),
+            b'e' => Part::Region(i, region_of(v)),
+            b'r' => Part::Registers(i, registers_of(v)),
+            _ => return Err(NoPart),
+        })
     }
 }
 
-fn with_sizes(b: Bench, n: u64, s: u64) -> Bench {
-    let mut out = b;
-    out.n = n as usize;
-    out.s = s as usize;
-    out
+// Sets a part of the bench.
+pub fn bench(b: &mut Bench, part: Part) {
+    match part {
+        Part::Whole => {
+            *b = no_bench();
+        }
+        Part::Sizes { n, s } => {
+            b.n = n;
+            b.s = s;
+        }
+        Part::Slot(i, new) => {
+            if let Some(sl) = b.slots.get_mut(i) {
+                *sl = new;
+            }
+        }
+        Part::Region(i, region) => {
+            if let Some(se) = b.sessions.get_mut(i) {
+                se.used = region.used;
+                se.slot = region.slot;
+                se.base = region.base;
+                se.len = region.len;
+                se.window = region.window;
+            }
+        }
+        Part::Registers(i, cpu) => {
+            if let Some(se) = b.sessions.get_mut(i) {
+                se.cpu = cpu;
+            }
+        }
+    }
 }
 
-fn slot(loaded: u64, start: u64, len: u64) -> Slot {
+// The rest of `s I LOADED START LENGTH`.
+fn slot_of(v: [u64; NUMBERS]) -> Slot {
+    let [_, loaded, start, len, ..] = v;
     Slot {
         loaded: loaded != 0,
         start: start as usize,
@@ -74,43 +113,16 @@ fn slot(loaded: u64, start: u64, len: u64) -> Slot {
     }
 }
 
-fn with_slot(b: Bench, k: u64, sl: Slot) -> Bench {
-    let i = k as usize;
-    if i > 15 {
-        return b;
+// The rest of `e I USED SLOT BASE LENGTH FIRST COUNT`.
+fn region_of(v: [u64; NUMBERS]) -> Region {
+    let [_, used, slot, base, len, first, count, ..] = v;
+    Region {
+        used: used != 0,
+        slot: slot as usize,
+        base: base as usize,
+        len: len as usize,
+        window: window(first, count),
     }
-    let mut out = b;
-    out.slots[i] = sl;
-    out
-}
-
-// Record k, or an unused one where there is no such record.
-pub fn record(b: Bench, k: u64) -> Session {
-    let i = k as usize;
-    if i > 15 {
-        return sound::no_session();
-    }
-    b.sessions[i]
-}
-
-fn with_session(b: Bench, k: u64, se: Session) -> Bench {
-    let i = k as usize;
-    if i > 15 {
-        return b;
-    }
-    let mut out = b;
-    out.sessions[i] = se;
-    out
-}
-
-fn region(se: Session, v: [u64; NUMBERS]) -> Session {
-    let mut out = se;
-    out.used = v[1] != 0;
-    out.slot = v[2] as usize;
-    out.base = v[3] as usize;
-    out.len = v[4] as usize;
-    out.window = window(v[5], v[6]);
-    out
 }
 
 // A window of any numbers.
@@ -121,18 +133,19 @@ pub fn window(first: u64, len: u64) -> Window {
     }
 }
 
-fn registers(se: Session, v: [u64; NUMBERS]) -> Session {
-    let cpu = Cpu {
-        kind: kind(v[6], v[7], v[8]),
+// The rest of `r I SP M COUNTER ROUTINE LOW KIND FAULT PLACE`.
+fn registers_of(v: [u64; NUMBERS]) -> Cpu {
+    let [_, sp, m, counter, routine, lowest, number, fault, place, ..] = v;
+    Cpu {
+        kind: kind(number, fault, place),
         regs: Regs {
-            sp: v[1] as usize,
-            m: v[2] as usize,
-            counter: v[3] as usize,
-            routine: v[4] as usize,
-            lowest: v[5] as usize,
+            sp: sp as usize,
+            m: m as usize,
+            counter: counter as usize,
+            routine: routine as usize,
+            lowest: lowest as usize,
         },
-    };
-    se.at(cpu)
+    }
 }
 
 // 0 is ready, 1 finished, and any other number faulted. Only a faulted session has a fault and a place.
@@ -140,6 +153,6 @@ fn kind(number: u64, fault: u64, place: u64) -> Kind {
     match number {
         0 => Kind::Ready,
         1 => Kind::Finished,
-        _ => Kind::Faulted((fault % 256) as u8, place as usize),
+        _ => Kind::Faulted(low_byte(fault), place as usize),
     }
 }

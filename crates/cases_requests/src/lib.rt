@@ -3,35 +3,146 @@
 // `cases_lines`, which tells an answer. An output longer than the longest is the longest.
 #![tactic(auto)]
 
-use archive::Found;
-use bench::{Answer, Out};
-use cases_lines::numbers::NUMBERS;
+use bench::{Out, Refusal};
+use cases_lines::numbers::{NUMBERS, low_word};
 use cases_lines::setup::window;
 use cases_lines::tell::tell;
 use cases_lines::{answers, digest};
-use segment::{Segment, Verdict};
-use sound::Bench;
+use machine::Cpu;
+use segment::Segment;
+use sound::{Bench, Window, session_at};
 
 // The longest output of a turning, in bytes.
 const OUTPUT: usize = 131072;
 
+// What a request sees of the world: the bench, with the words of memory and the bytes of store that are lent.
+#[derive(Drop)]
+pub struct Seen<'a> {
+    pub bench: Bench,
+    pub memory: &'a mut [u16],
+    pub store: &'a [u8],
+}
+
 // A question that changes nothing.
-pub fn look(b: Bench, memory: &[u16], store: &[u8], what: u8, v: [u64; NUMBERS]) {
-    match what {
-        b'J' => {
-            judge(store);
+#[derive(Clone, Copy)]
+pub enum Question {
+    Judge,
+    Turned { len: usize },
+    Archive,
+    Range { farm: u16 },
+    Sound,
+}
+
+// An entry of the bench, or of the archive.
+#[derive(Clone, Copy)]
+pub enum Entry {
+    New {
+        n: usize,
+        s: usize,
+    },
+    Load {
+        slot: usize,
+        start: usize,
+        len: usize,
+    },
+    Open {
+        slot: usize,
+        len: usize,
+    },
+    OpenWindow {
+        slot: usize,
+        len: usize,
+        window: Window,
+    },
+    OpenFarm {
+        slot: usize,
+        len: usize,
+        farm: u16,
+    },
+    Turn {
+        session: usize,
+        steps: u64,
+    },
+    Close {
+        session: usize,
+    },
+}
+
+// The letter is of no line that asks so.
+#[derive(Clone, Copy)]
+pub struct NotAsked;
+
+// A line's letter and its numbers.
+impl TryFrom<(u8, [u64; NUMBERS])> for Question {
+    type Error = NotAsked;
+
+    fn try_from(line: (u8, [u64; NUMBERS])) -> Result<Self, NotAsked> {
+        let (letter, v) = line;
+        Ok(match letter {
+            b'J' => Question::Judge,
+            b'V' => Question::Turned { len: v[0] as usize },
+            b'A' => Question::Archive,
+            b'G' => Question::Range {
+                farm: low_word(v[0]),
+            },
+            b'Q' => Question::Sound,
+            _ => return Err(NotAsked),
+        })
+    }
+}
+
+impl TryFrom<(u8, [u64; NUMBERS])> for Entry {
+    type Error = NotAsked;
+
+    fn try_from(line: (u8, [u64; NUMBERS])) -> Result<Self, NotAsked> {
+        let (letter, v) = line;
+        let i = v[0] as usize;
+        let n = v[1] as usize;
+        Ok(match letter {
+            b'N' => Entry::New { n: i, s: n },
+            b'L' => Entry::Load {
+                slot: i,
+                start: n,
+                len: v[2] as usize,
+            },
+            b'O' => Entry::Open { slot: i, len: n },
+            b'W' => Entry::OpenWindow {
+                slot: i,
+                len: n,
+                window: window(v[2], v[3]),
+            },
+            b'F' => Entry::OpenFarm {
+                slot: i,
+                len: n,
+                farm: low_word(v[2]),
+            },
+            b'T' => Entry::Turn {
+                session: i,
+                steps: v[1],
+            },
+            b'X' => Entry::Close { session: i },
+            _ => return Err(NotAsked),
+        })
+    }
+}
+
+// Asks and tells. What is seen stays as it is.
+pub fn look(w: &Seen, asked: Question) {
+    match asked {
+        Question::Judge => {
+            judge(w.store);
         }
-        b'V' => {
-            turn(store, v[0]);
+        Question::Turned { len } => {
+            turn(w.store, len);
         }
-        b'A' => {
-            archive_judged(b, memory, store);
+        Question::Archive => {
+            w.archive_judged();
         }
-        b'G' => {
-            range(b, memory, store, v[0]);
+        Question::Range { farm } => {
+            w.range(farm);
         }
-        _ => {
-            is_sound(b, memory, store);
+        Question::Sound => {
+            w.is_sound();
         }
     }
 }
@@ -39,13 +150,11 @@ pub fn look(b: Bench, memory: &[u16], store: &[u8], what: u8, v: [u64; NUMBERS])
 fn judge(store: &[u8]) {
     let v = checks::judge(store);
     match v {
-        Verdict::Accepted => {
+        Ok(()) => {
             header(segment::head(store), routines(store));
         }
-        Verdict::Refused { number, place } => {
-            let n = [number as u64, place as u64];
-            let none = [0u64; 0];
-            tell(b'r', &n, &none);
+        Err(refusal) => {
+            refused(refusal, &[]);
         }
     }
 }
@@ -53,136 +162,125 @@ fn judge(store: &[u8]) {
 fn header(h: Segment, routines: u64) {
     let n = [
         h.words as u64,
-        h.least as u64,
-        h.dict as u64,
-        h.reloc as u64,
-        h.pool as u64,
+        u64::from(h.least),
+        u64::from(h.dict),
+        u64::from(h.reloc),
+        u64::from(h.pool),
         h.reals as u64,
-        h.real as u64,
-        h.count as u64,
+        u64::from(h.real),
+        u64::from(h.count),
     ];
-    let d = [routines];
-    tell(b'a', &n, &d);
+    tell(b'a', &n, &[routines]);
 }
 
 // The digest of the numbers of every routine.
 fn routines(store: &[u8]) -> u64 {
-    let h = segment::head(store);
-    let n = h.count;
-    let mut d = 0;
-    let mut k: u16 = 0;
-    while k < n {
-        k += 1;
-        d = routine(store, k, d);
-    }
-    d
+    let n = segment::head(store).count;
+    (1..=n).fold(0, |d, k| routine(store, k, d))
 }
 
 fn routine(store: &[u8], k: u16, d: u64) -> u64 {
     let r = segment::routine_of(store, k);
-    let a = digest::taken(d, r.entry as u64);
-    let b = digest::taken(a, r.datasize as u64);
-    let c = digest::taken(b, r.exitic as u64);
-    digest::taken(c, r.start as u64)
+    let n = [
+        u64::from(r.entry),
+        u64::from(r.datasize),
+        u64::from(r.exitic),
+        u64::from(r.start),
+    ];
+    n.into_iter().fold(d, digest::taken)
 }
 
-fn turn(store: &[u8], count: u64) {
+fn turn(store: &[u8], len: usize) {
     let mut out = [0xAAu8; OUTPUT];
-    turn_whole(store, &mut out, count);
+    turned(store, &mut out, len);
 }
 
-fn turn_whole(store: &[u8], out: &mut [u8; OUTPUT], count: u64) {
-    turn_part(store, out, count);
-}
-
-// More than the longest output is the longest.
-fn turn_part(store: &[u8], out: &mut [u8], count: u64) {
-    let n = count as usize;
-    if n < out.len() {
-        turned(store, &mut out[0..n]);
-    } else {
-        turned(store, out);
-    }
-}
-
-fn turned(store: &[u8], out: &mut [u8]) {
+// The first len bytes of the room are the output: all of them where it has fewer. Apart from `turn`, a proof knows the room's length and carries no array.
+fn turned(store: &[u8], room: &mut [u8], len: usize) {
+    let n = len.min(room.len());
+    let out = &mut room[..n];
     let v = turning::turn(store, out);
-    let d = [digest::of_bytes(out)];
+    let d = [digest::of(out)];
     match v {
-        Verdict::Accepted => {
-            let none = [0u64; 0];
-            tell(b'a', &none, &d);
+        Ok(()) => {
+            tell(b'a', &[], &d);
         }
-        Verdict::Refused { number, place } => {
-            let n = [number as u64, place as u64];
-            tell(b'r', &n, &d);
+        Err(refusal) => {
+            refused(refusal, &d);
         }
     }
 }
 
-fn is_sound(b: Bench, memory: &[u16], store: &[u8]) {
-    let none = [0u64; 0];
-    if sound_test::is_sound(b, memory, store) {
-        tell(b'y', &none, &none);
-    } else {
-        tell(b'n', &none, &none);
+fn refused(refusal: Refusal, digests: &[u64]) {
+    tell(
+        b'r',
+        &[u64::from(refusal.number()), u64::from(refusal.place())],
+        digests,
+    );
+}
+
+// An entry of the bench, or of the archive: asked and answered, and the bench after it takes the old one's place.
+pub fn enter(w: &mut Seen, asked: Entry) {
+    let out = w.entered(asked);
+    w.bench = out.bench;
+    answers::told(out.answer, w.turned(asked), out.bench, w.memory);
+}
+
+impl Seen<'_> {
+    fn is_sound(&self) {
+        let sound = sound_test::is_sound(self.bench, self.memory, self.store);
+        tell(if sound { b'y' } else { b'n' }, &[], &[]);
     }
-}
 
-fn archive_judged(b: Bench, memory: &[u16], store: &[u8]) {
-    let none = [0u64; 0];
-    let v = archive::accept(b, memory, store);
-    match v {
-        Verdict::Accepted => {
-            tell(b'a', &none, &none);
-        }
-        Verdict::Refused { number, place } => {
-            let n = [number as u64, place as u64];
-            tell(b'r', &n, &none);
-        }
-    }
-}
-
-// A farm number is a word.
-fn farm(v: u64) -> u16 {
-    (v % 65536) as u16
-}
-
-fn range(b: Bench, memory: &[u16], store: &[u8], number: u64) {
-    let none = [0u64; 0];
-    let found = archive::range(b, memory, store, farm(number));
-    match found {
-        Found::At(w) => {
-            let n = [w.first as u64, w.len as u64];
-            tell(b'a', &n, &none);
-        }
-        Found::Refused(number, place) => {
-            let n = [number as u64, place as u64];
-            tell(b'r', &n, &none);
+    fn archive_judged(&self) {
+        let v = archive::accept(self.bench, self.memory, self.store);
+        match v {
+            Ok(()) => {
+                tell(b'a', &[], &[]);
+            }
+            Err(refusal) => {
+                refused(refusal, &[]);
+            }
         }
     }
-}
 
-// An entry of the bench, or of the archive: asked, answered, and the bench after it.
-pub fn enter(b: Bench, memory: &mut [u16], store: &[u8], what: u8, v: [u64; NUMBERS]) -> Bench {
-    let out = entered(b, memory, store, what, v);
-    let after = out.bench;
-    let answer = out.answer;
-    answers::told(answer, what, v[0], after, memory);
-    after
-}
+    fn range(&self, farm: u16) {
+        let found = archive::range(self.bench, self.memory, self.store, farm);
+        match found {
+            Ok(w) => {
+                tell(b'a', &[w.first as u64, w.len as u64], &[]);
+            }
+            Err(refusal) => {
+                refused(refusal, &[]);
+            }
+        }
+    }
 
-fn entered(b: Bench, memory: &mut [u16], store: &[u8], what: u8, v: [u64; NUMBERS]) -> Out {
-    let i = v[0] as usize;
-    let n = v[1] as usize;
-    match what {
-        b'N' => renewed(b, i, n),
-        b'L' => bench::load(b, memory, store, i, n, v[2] as usize),
-        b'O' => bench::open_session(b, memory, store, i, n),
-        b'W' => bench::open_window(b, memory, store, i, n, window(v[2], v[3])),
-        b'F' => archive::open_farm(b, memory, store, i, n, farm(v[2])),
-        b'T' => bench::turn(b, memory, store, i, v[1]),
-        _ => bench::close(b, memory, store, i),
+    fn entered(&mut self, asked: Entry) -> Out {
+        let b = self.bench;
+        let memory = &mut *self.memory;
+        let store = self.store;
+        match asked {
+            Entry::New { n, s } => renewed(b, n, s),
+            Entry::Load { slot, start, len } => bench::load(b, memory, store, slot, start, len),
+            Entry::Open { slot, len } => bench::open_session(b, memory, store, slot, len),
+            Entry::OpenWindow { slot, len, window } => {
+                bench::open_window(b, memory, store, slot, len, window)
+            }
+            Entry::OpenFarm { slot, len, farm } => {
+                archive::open_farm(b, memory, store, slot, len, farm)
+            }
+            Entry::Turn { session, steps } => bench::turn(b, memory, store, session, steps),
+            Entry::Close { session } => bench::close(b, memory, store, session),
+        }
+    }
+
+    // The registers that a turn is answered with.
+    fn turned(&self, asked: Entry) -> Option<Cpu> {
+        match asked {
+            Entry::Turn { session, .. } => Some(session_at(self.bench, session).cpu),
+            _ => None,
+        }
     }
 }
 
@@ -191,7 +289,7 @@ fn renewed(b: Bench, n: usize, s: usize) -> Out {
     let out = bench::new_bench(n, s);
     let answer = out.answer;
     match answer {
-        Answer::Done(_) => out,
-        Answer::Refused(_, _) => Out { answer, bench: b },
+        Ok(_) => out,
+        Err(_) => Out { answer, bench: b },
     }
 }

@@ -2,60 +2,51 @@
 // and 4. Nothing here prints. Above it: `pond_why`. Below it: places, flow, tables and stack, a check each.
 use crate::meaning::Does;
 use crate::numbers::{Numbers, is_outside, less, narrow, word};
-use crate::why::{Code, Why, fault_of};
+use crate::why::{Code, Why};
 use crate::{flow, meaning, places, stack, tables};
 use instruction::Instruction;
 
-pub fn first_failing(seg: &[u8], region: &[u16], n: Numbers) -> Why {
+pub fn first_failing(seg: &[u8], region: &[u16], n: Numbers) -> Result<(), Why> {
     if is_outside(n.counter as usize, 22, less(n.code as usize, 1)) {
-        return Why::Code(Code::Begins);
+        return Err(Why::Code(Code::Begins));
     }
     let i = instruction::read(seg, n.counter as usize);
-    let w = fetched(i);
-    if fault_of(w) != 0 {
-        return w;
-    }
+    fetched(i)?;
     of_words(seg, region, n, i, meaning::of(i))
 }
 
 // The instruction is carried, whole, and its DB lawful.
-fn fetched(i: Instruction) -> Why {
+fn fetched(i: Instruction) -> Result<(), Why> {
     if i.carried {
         if i.whole {
             return level(i.first, i.x);
         }
-        return Why::Code(Code::Ends(i.next));
+        return Err(Why::Code(Code::Ends(i.next)));
     }
-    Why::Code(Code::Uncarried(i.first))
+    Err(Why::Code(Code::Uncarried(i.first)))
 }
 
 // LDA, LOD, CPI and STR begin with a DB.
-fn level(first: u8, x: u16) -> Why {
+fn level(first: u8, x: u16) -> Result<(), Why> {
     if x <= 127 {
-        return Why::Holds;
+        return Ok(());
     }
     match first {
-        136 | 137 | 146 | 166 => Why::Code(Code::Level(x)),
-        _ => Why::Holds,
+        136 | 137 | 146 | 166 => Err(Why::Code(Code::Level(x))),
+        _ => Ok(()),
     }
 }
 
 // There are words enough, the meaning asks nothing in vain, and there is room.
-fn of_words(seg: &[u8], region: &[u16], n: Numbers, i: Instruction, d: Does) -> Why {
-    let few = stack::few(n, i.taken);
-    if fault_of(few) != 0 {
-        return few;
-    }
-    let asked = asks(seg, region, n, d, i.next);
-    if fault_of(asked) != 0 {
-        return asked;
-    }
+fn of_words(seg: &[u8], region: &[u16], n: Numbers, i: Instruction, d: Does) -> Result<(), Why> {
+    stack::few(n, i.taken)?;
+    asks(seg, region, n, d, i.next)?;
     room(seg, n, d, i.taken, i.given)
 }
 
-fn asks(seg: &[u8], region: &[u16], n: Numbers, d: Does, next: usize) -> Why {
+fn asks(seg: &[u8], region: &[u16], n: Numbers, d: Does, next: usize) -> Result<(), Why> {
     match d {
-        Does::Plain => Why::Holds,
+        Does::Plain => Ok(()),
         Does::Pool(x) => places::pool(n, x),
         Does::Constants(b, k) => tables::constants(seg, b, k),
         Does::Offset(whose, x) => places::offset(region, n, whose, x),
@@ -72,12 +63,12 @@ fn asks(seg: &[u8], region: &[u16], n: Numbers, d: Does, next: usize) -> Why {
 }
 
 // Whether SP after the step would lie below 6+G.
-fn room(seg: &[u8], n: Numbers, d: Does, taken: u8, given: u8) -> Why {
+fn room(seg: &[u8], n: Numbers, d: Does, taken: u8, given: u8) -> Result<(), Why> {
     match d {
         Does::Call(_, k) => stack::entered(n, k, segment::routine_of(seg, k).datasize),
         Does::Constants(_, k) => stack::block(n, k),
         // its new SP was judged with its mark
-        Does::Return(_) => Why::Holds,
+        Does::Return(_) => Ok(()),
         _ => stack::deep(n, taken, given),
     }
 }

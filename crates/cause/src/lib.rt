@@ -15,4 +15,4 @@ mod why;
 
 pub use judged::first_failing;
 pub use numbers::{Numbers, less, numbers_of};
-pub use why::{Address, Code, Flow, Place, Stack, Why, fault_of};
+pub use why::{Address, BadLink, Code, Flow, Place, Stack, Why, fault_of};

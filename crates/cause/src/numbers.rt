@@ -7,11 +7,9 @@ use plan::Regs;
 // A number that no lawful one reaches.
 const HUGE: u16 = 65535;
 
-// `code` is 2W, the bytes of the segment, `floor` is 6+G, `count` the number of routines, `len` is L and `shared` the number of words in its window. `kept`
-// says whether every number is one that a session can have; where it is not, nothing here means anything.
+// `code` is 2W, the bytes of the segment, `floor` is 6+G, `count` the number of routines, `len` is L and `shared` the number of words in its window.
 #[derive(Clone, Copy)]
 pub struct Numbers {
-    pub kept: bool,
     pub code: u16,
     pub pool: u16,
     pub count: u16,
@@ -23,11 +21,14 @@ pub struct Numbers {
     pub counter: u16,
 }
 
-pub fn numbers_of(seg: &[u8], len: usize, shared: usize, regs: Regs) -> Numbers {
+// None where a number is one that no session can have: then no check means anything.
+pub fn numbers_of(seg: &[u8], len: usize, shared: usize, regs: Regs) -> Option<Numbers> {
     let head = segment::head(seg);
     let floor = segment::floor(seg);
-    Numbers {
-        kept: is_kept(seg.len(), head.count, floor, len, shared, regs),
+    if !is_kept(seg.len(), head.count, floor, len, shared, regs) {
+        return None;
+    }
+    Some(Numbers {
         code: narrow(seg.len()),
         pool: head.pool,
         count: head.count,
@@ -37,74 +38,45 @@ pub fn numbers_of(seg: &[u8], len: usize, shared: usize, regs: Regs) -> Numbers 
         sp: narrow(regs.sp),
         m: narrow(regs.m),
         counter: narrow(regs.counter),
-    }
+    })
 }
 
 pub fn narrow(n: usize) -> u16 {
-    if n < 65535 { n as u16 } else { HUGE }
+    u16::try_from(n).unwrap_or(HUGE)
 }
 
 // A segment has 32 to 65534 bytes, a session at most 32768 words and as many shared ones; its routine is one of the segment's.
 fn is_kept(code: usize, count: u16, floor: u32, len: usize, shared: usize, regs: Regs) -> bool {
-    if code < 32 {
-        return false;
-    }
-    if 65534 < code {
-        return false;
-    }
-    if 32768 < shared {
-        return false;
-    }
-    if regs.routine < 1 {
-        return false;
-    }
-    if (count as usize) < regs.routine {
-        return false;
-    }
-    regs_kept(code, floor, len, regs)
+    32 <= code
+        && code <= 65534
+        && shared <= 32768
+        && 1 <= regs.routine
+        && regs.routine <= count as usize
+        && regs_kept(code, floor, len, regs)
 }
 
 // SP lies in 6+G..L, M in 1..L-5, the counter is at most 2W.
 fn regs_kept(code: usize, floor: u32, len: usize, regs: Regs) -> bool {
-    if 32768 < len {
-        return false;
-    }
-    if len < regs.sp {
-        return false;
-    }
-    if regs.sp < floor as usize {
-        return false;
-    }
-    if regs.m < 1 {
-        return false;
-    }
-    if code < regs.counter {
-        return false;
-    }
-    regs.m < less(len, 4)
+    len <= 32768
+        && floor as usize <= regs.sp
+        && regs.sp <= len
+        && 1 <= regs.m
+        && regs.m < less(len, 4)
+        && regs.counter <= code
 }
 
 // n less k, and 0 below 0.
 pub fn less(n: usize, k: usize) -> usize
     ensures { result ≡ n - k }
 {
-    if n < k {
-        return 0;
-    }
-    n - k
+    n.saturating_sub(k)
 }
 
 // Whether a number lies outside low to high.
 pub fn is_outside(n: usize, low: usize, high: usize) -> bool
     ensures { result ≡ not (leb low n && leb n high) }
 {
-    if n < low {
-        return true;
-    }
-    if high < n {
-        return true;
-    }
-    false
+    n < low || high < n
 }
 
 // The word of the region at a place, and 0 past its end.

@@ -3,10 +3,9 @@
 ghost use Rattle.std.specs.Prelude.{◌≡◌};
 ghost use Rattle.cause.specs.Fault.{code_fault, stack_fault, flow_fault, fault_of};
 
-// The check that failed, by theme; or none.
+// The check that failed, by theme.
 #[derive(Clone, Copy)]
 pub enum Why {
-    Holds,
     Code(Code),
     Stack(Stack),
     Place(Place),
@@ -75,6 +74,15 @@ pub enum Address {
     StoreShared(u16),
 }
 
+// A static link that leads to no record: of how many links, how many were left with it, the word where it stands, and what it holds.
+#[derive(Clone, Copy)]
+pub struct BadLink {
+    pub of: u16,
+    pub left: u16,
+    pub at: u16,
+    pub value: u16,
+}
+
 // Faults 7, 8 and 9.
 #[derive(Clone, Copy)]
 pub enum Flow {
@@ -87,8 +95,7 @@ pub enum Flow {
     // the routine called: not there, or not linked
     Routine(u16),
     Unlinked(u16),
-    // of how many links, how many were left with the bad one, the word where it stands, and what it holds
-    Link(u16, u16, u16, u16),
+    Link(BadLink),
     // what the mark's first bad word holds: MSDYN, MSPROC, MSENDV, MSIPC
     Dynamic(u16),
     Caller(u16),
@@ -98,17 +105,24 @@ pub enum Flow {
     Back(usize, u16),
 }
 
+// A bad link, so that `?` hands it on as the check that failed.
+impl From<BadLink> for Why {
+    fn from(link: BadLink) -> Why {
+        Why::Flow(Flow::Link(link))
+    }
+}
+
 // The fault that a check gives; 0 for none.
-pub fn fault_of(w: Why) -> u8
-    ensures { result ≡ fault_of w }
+pub fn fault_of(found: Result<(), Why>) -> u8
+    ensures { result ≡ fault_of found }
 {
-    match w {
-        Why::Holds => 0,
-        Why::Code(c) => of_code(c),
-        Why::Stack(s) => of_stack(s),
-        Why::Place(_) => 6,
-        Why::Address(_) => 6,
-        Why::Flow(f) => of_flow(f),
+    match found {
+        Ok(()) => 0,
+        Err(Why::Code(c)) => of_code(c),
+        Err(Why::Stack(s)) => of_stack(s),
+        Err(Why::Place(_)) => 6,
+        Err(Why::Address(_)) => 6,
+        Err(Why::Flow(f)) => of_flow(f),
     }
 }
 
@@ -146,7 +160,7 @@ fn of_flow(f: Flow) -> u8
         Flow::CaseBefore(_, _) => 7,
         Flow::Routine(_) => 8,
         Flow::Unlinked(_) => 8,
-        Flow::Link(_, _, _, _) => 9,
+        Flow::Link(_) => 9,
         Flow::Dynamic(_) => 9,
         Flow::Caller(_) => 9,
         Flow::Segment(_) => 9,

@@ -6,19 +6,17 @@ ghost use Rattle.std.specs.Prelude.{◌≡◌, cond, ◌&&◌, ◌||◌, ◌+◌
 ghost use Rattle.basis.specs.Bools.{inside};
 ghost use Rattle.segment.specs.Head.{words, least, dict, count, shape_ok, sex_ok};
 ghost use Rattle.basis.specs.Checks.{passed, refused, is_passed, ruling, passes};
+ghost use Rattle.segment.specs.Refusals.{number_of, place_of};
 ghost use Rattle.segment.specs.Judge.{head_checks, routine_checks, routines_from, judged, ruling_of};
 
 use operand::{byte_at, word_at, word_in};
-use segment::{Segment, Verdict};
+use segment::{Refusal, Segment};
 
-// The verdict of a check, before those of the later ones.
-fn checked(ok: bool, number: u8, place: u16, later: Verdict) -> Verdict
-    ensures { ruling_of result ≡ cond ok (ruling_of later) (refused number place) }
+// A line of the refusal table: nothing, or its refusal.
+fn checked(ok: bool, refusal: Refusal) -> Result<(), Refusal>
+    ensures { ruling_of result ≡ cond ok passed (refused (number_of refusal) (place_of refusal)) }
 {
-    if ok {
-        return later;
-    }
-    Verdict::Refused { number, place }
+    if ok { Ok(()) } else { Err(refusal) }
 }
 
 fn shape_ok(seg: &[u8]) -> bool
@@ -60,37 +58,35 @@ fn dict_ok(w: usize, d: u16, n: u16) -> bool
     )
 }
 
-// Checks 1 to 5, the last first: each takes the verdict of those after it.
-fn judge_head(seg: &[u8]) -> Verdict
+// Checks 1 to 5.
+fn judge_head(seg: &[u8]) -> Result<(), Refusal>
     ensures { ruling_of result ≡ ruling (head_checks seg.now) }
 {
     let h = segment::head(seg);
     let first = word_at(seg, h.least, h.pool as u32);
-    let v5 = checked(dict_ok(h.words, h.dict, h.count), 5, 0, Verdict::Accepted);
-    let v4 = checked(pool_ok(h.words, h.pool, first), 4, 0, v5);
-    let v3 = checked(h.reloc == 0, 3, 0, v4);
-    let v2 = checked(sex_ok(seg), 2, 0, v3);
-    checked(shape_ok(seg), 1, 0, v2)
+    checked(shape_ok(seg), Refusal::Length)?;
+    checked(sex_ok(seg), Refusal::Sex)?;
+    checked(h.reloc == 0, Refusal::Relocation)?;
+    checked(pool_ok(h.words, h.pool, first), Refusal::Pool)?;
+    checked(dict_ok(h.words, h.dict, h.count), Refusal::Dictionary)
 }
 
 // Checks 6 to 8 of routine k. One that is not linked has none, unless it is routine 1.
-fn judge_routine(seg: &[u8], k: u16) -> Verdict
+fn judge_routine(seg: &[u8], k: u16) -> Result<(), Refusal>
     ensures { ruling_of result ≡ ruling (routine_checks seg.now k) }
 {
     let r = segment::routine_of(seg, k);
     let w = seg.len() / 2;
     let e = r.entry as usize;
     if bounds::both(e == 0, k != 1) {
-        return Verdict::Accepted;
+        return Ok(());
     }
-    let v8 = checked(
+    checked(bounds::both(12 <= e, e + 1 < w), Refusal::Entry(k))?;
+    checked(r.datasize < 32768, Refusal::Datasize(k))?;
+    checked(
         bounds::within(22, 2 * w, r.exitic as usize),
-        8,
-        k,
-        Verdict::Accepted,
-    );
-    let v7 = checked(r.datasize < 32768, 7, k, v8);
-    checked(bounds::both(12 <= e, e + 1 < w), 6, k, v7)
+        Refusal::Exitic(k),
+    )
 }
 
 // Whether routine k passes checks 6 to 8, of what is read once a segment: the sex, W and D. The routine's
@@ -115,46 +111,30 @@ fn routine_passes(seg: &[u8], sex: bool, w: usize, d: usize, k: usize) -> bool
 
 // Checks 6 to 8 of every routine, the lowest number first, of a segment that passed checks 1 to 5.
 // A refusal's number and place are looked for only once there is one.
-fn judge_routines(seg: &[u8]) -> Verdict
+fn judge_routines(seg: &[u8]) -> Result<(), Refusal>
     requires { ruling (head_checks seg.now) ≡ passed }
     ensures { ruling_of result ≡ ruling (routines_from seg.now (count seg.now) 1) }
 {
     let h = segment::head(seg);
     let d = h.dict as usize;
-    let n = h.count as usize;
-    let mut k: usize = 0;
-    while k < n {
-        k += 1;
-        if !routine_passes(seg, h.least, h.words, d, k) {
-            return judge_routine(seg, k as u16);
+    for k in 1..=h.count {
+        if !routine_passes(seg, h.least, h.words, d, k as usize) {
+            return judge_routine(seg, k);
         }
     }
-    Verdict::Accepted
+    Ok(())
 }
 
-pub fn judge(seg: &[u8]) -> Verdict
+pub fn judge(seg: &[u8]) -> Result<(), Refusal>
     ensures { ruling_of result ≡ judged seg.now }
 {
-    let v = judge_head(seg);
-    match v {
-        Verdict::Accepted => judge_routines(seg),
-        Verdict::Refused {
-            number: _,
-            place: _,
-        } => v,
-    }
+    judge_head(seg)?;
+    judge_routines(seg)
 }
 
 // Whether a segment passes checks 1 to 8.
 pub fn accepts(seg: &[u8]) -> bool
     ensures { result ≡ is_passed (judged seg.now) }
 {
-    let v = judge(seg);
-    match v {
-        Verdict::Accepted => true,
-        Verdict::Refused {
-            number: _,
-            place: _,
-        } => false,
-    }
+    judge(seg).is_ok()
 }

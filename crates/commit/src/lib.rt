@@ -1,6 +1,6 @@
 // The commit of a step: it only writes, and cannot fail. One word, two words, words of the pool or a mark, into one session's region of the memory.
 // Above: `machine`, which commits what was judged; below: the definition's `written`, and parts of a memory.
-#![tactic(auto)]
+#![tactic(auto, unfolding(basis::specs::Part::part, basis::specs::Part::splice, pmachine::specs::Run::written, crate::specs::Mark::five))]
 
 ghost use Rattle.std.specs.Prelude.{◌≡◌, [], ◌∷◌, ◌+◌, ◌-◌, ◌≤◌, ◌<◌, length, set, eqb};
 ghost use Rattle.basis.specs.Part.{part, splice};
@@ -38,9 +38,7 @@ fn put_all(region: &mut [u16], top: usize, n: usize, seg: &[u8], least: bool, fi
     requires { (n ≤ top) × ((top ≤ length region.old) × (top ≤ 32768)) }
     ensures { region.new ≡ written region.old (top - n) (on_top (words_from least seg.now first n)) }
 {
-    let mut left = n;
-    while 0 < left {
-        left -= 1;
+    for left in (0..n).rev() {
         let v = operand::word_at(seg, least, first as u32 + left as u32);
         put(region, top - 1 - left, v);
     }
@@ -64,6 +62,7 @@ pub fn put_pair(mem: &mut [u16], at: usize, end: usize, place: usize, x: u16, y:
 
 // n words of a segment, from `first` on, pushed below word `top` of the region, sex 0 for least byte first. A call for each sex keeps the loop a call
 // of its own, and a part is made of the segment for it: in the step both would take registers from every other instruction.
+#[tactic(auto, using(basis::proofs::Part::part_all), unfolding(basis::specs::Part::part, basis::specs::Part::splice))]
 pub fn put_block(
     mem: &mut [u16],
     at: usize,

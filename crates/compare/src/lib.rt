@@ -1,6 +1,6 @@
 // Comparisons of words, signed and unsigned, which answer 1 or 0; and AND, OR and NOT of all 16 bits.
 // Below: basis, whose laws are cited. Above: the machine's instructions. No function asks anything of its words.
-#![tactic(auto)]
+#![tactic(auto, unfolding(basis::specs::Integer::eq_of, basis::specs::Integer::ne_of, basis::specs::Integer::leu_of, basis::specs::Integer::geu_of, basis::specs::Integer::geq_of, basis::specs::Integer::truth, basis::specs::Integer::and_of, basis::specs::Integer::or_of, basis::specs::Integer::not_of, basis::specs::Integer::flipped))]
 
 ghost use Rattle.std.specs.Prelude.{◌≡◌};
 ghost use Rattle.basis.specs.Integer.{eq_of, ne_of, leq_of, geq_of, leu_of, geu_of, and_of, or_of, not_of};
@@ -24,15 +24,17 @@ pub fn differ(x: u16, y: u16) -> u16
 }
 
 // 32,768 added to both turns the signed order into that of the words.
+#[tactic(auto, using(basis::proofs::Integer::leq_is), unfolding(basis::specs::Integer::truth))]
 pub fn leq(x: u16, y: u16) -> u16
     ensures { result ≡ leq_of x y }
 {
-    if std::num::wrapping_add_u16(x, 32768) <= std::num::wrapping_add_u16(y, 32768) {
+    if x.wrapping_add(32768) <= y.wrapping_add(32768) {
         return 1;
     }
     0
 }
 
+#[tactic(auto, unfolding(basis::specs::Integer::leq_of, basis::specs::Integer::geq_of))]
 pub fn geq(x: u16, y: u16) -> u16
     ensures { result ≡ geq_of x y }
 {
@@ -48,6 +50,7 @@ pub fn leu(x: u16, y: u16) -> u16
     0
 }
 
+#[tactic(auto, unfolding(basis::specs::Integer::leu_of, basis::specs::Integer::geu_of))]
 pub fn geu(x: u16, y: u16) -> u16
     ensures { result ≡ geu_of x y }
 {

@@ -30,8 +30,7 @@ use Rattle.sound.specs.declared.Window.{Window}
 use Rattle.sound.specs.Bench.{World, session_at, shared_of, at_window}
 use Rattle.sound.specs.Sound.{Sound}
 use Rattle.sound.proofs.Facts.{window_good, outside_unsound}
-use Rattle.entry.specs.declared.Answer.TheVariants.{Done}
-use Rattle.entry.specs.Answer.{Result}
+use Rattle.entry.specs.Answer.{Done, Result}
 use Rattle.entry.specs.Entries.{window_open_of}
 use Rattle.archive_records.specs.Records.{range_of}
 use Rattle.promises.specs.Words.{Zeroed, OnlyRecord}

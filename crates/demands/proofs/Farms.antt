@@ -17,8 +17,7 @@ use Rattle.sound.specs.Below.{start_of}
 use Rattle.sound.specs.Bench.{code_of, slot_at, World, session_at, shared_of, window_in, words_of, code_at}
 use Rattle.sound.specs.Sound.{Sound}
 use Rattle.sound.proofs.Facts.{opened}
-use Rattle.entry.specs.declared.Answer.TheVariants.{Done}
-use Rattle.entry.specs.Answer.{Result}
+use Rattle.entry.specs.Answer.{Done, Result}
 use Rattle.entry.specs.Entries.{window_open_of}
 use Rattle.entry.proofs.Refusing.{by_checks}
 use Rattle.archive_records.specs.Records.{records_in, never_falls, accepted, first_fall, range_of, records_of}

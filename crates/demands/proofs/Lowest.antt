@@ -2,10 +2,9 @@
 use Prim.Native.Nat.{ℕ}
 use mathlib.Core.Path.{◌≡◌, refl, sym, ap, ◌∙◌}
 use mathlib.Core.List.{List}
-use mathlib.Core.Logic.{◌⊎◌, ⊎_elim, inl, inr}
+use mathlib.Core.Logic.{⊎_elim, inl, inr}
 use mathlib.Core.Bool.{true}
 use Rattle.pmachine.specs.State.{State}
-use Rattle.pmachine.specs.Run.{run}
 use Rattle.pmachine.specs.Sound.{starting, opened as openedOn}
 use Rattle.pmachine.specs.Lowest.{Reached, Deepest}
 use Rattle.pmachine.proofs.Lowest.{run_lowest, fresh_lowest}
@@ -15,14 +14,14 @@ use Rattle.sound.specs.declared.Session.{Session}
 use Rattle.sound.specs.declared.Window.{Window}
 use Rattle.sound.specs.Bench.{World, session_at, code_at, window_at, state_at}
 use Rattle.sound.specs.Sound.{Sound}
-use Rattle.entry.specs.declared.Answer.TheVariants.{Done}
 use Rattle.entry.specs.Entries.{window_open_of}
 use Rattle.promises.specs.Requests.{opening_on}
 use Rattle.promises.proofs.Requests.{stays_sound}
 use Rattle.promises.proofs.Openings.{opened_is}
-use Rattle.isolation.specs.Isolation.{Turn, after, steps_of}
+use Rattle.isolation.specs.Isolation.{Turn, steps_of}
 use Rattle.isolation.proofs.Theorem.{isolation}
 use Rattle.demands.specs.Demands.{CameTo, LeastOf, LeastOfAll, LowestSince}
+use Rattle.entry.specs.Answer.{Done}
 
 -- ---- the statements of `pmachine`, written out
 

@@ -27,9 +27,7 @@ use Rattle.sound.specs.declared.Window.{Window}
 use Rattle.sound.specs.Bench.{no_session, code_of, slot_at, World, world_of, session_at, shared_of, words_of, code_at, window_at, state_at, at_cpu, at_window, at_sessions}
 use Rattle.sound.specs.Sound.{limits_ok, inside_shared, sound_b, Sound}
 use Rattle.entry.specs.declared.Out.{Out}
-use Rattle.entry.specs.declared.Answer.{Answer}
-use Rattle.entry.specs.declared.Answer.TheVariants.{Done, Refused}
-use Rattle.entry.specs.Answer.{answer_ruling, Result, result_of}
+use Rattle.entry.specs.Answer.{Answer, Done, Refused, answer_ruling, Result, result_of}
 use Rattle.entry.specs.Entries.{new_of, loaded_at, len_ok, record_for, open_of, window_open_of, fresh, open_at, close_of}
 use Rattle.archive_records.specs.Records.{records_in, farm_at, accepted, first_fall, range_of, records_of, own_records}
 use Rattle.archive.specs.Archive.{farm_open_of}

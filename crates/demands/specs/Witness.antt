@@ -9,11 +9,10 @@ use Rattle.machine.specs.declared.Kind.TheVariants.{Ready, Finished, Faulted}
 use Rattle.sound.specs.declared.Window.{Window}
 use Rattle.sound.specs.Bench.{World, world_of, session_at, words_of, at_cpu, at_window, at_sessions}
 use Rattle.sound.specs.Sound.{Sound}
-use Rattle.entry.specs.declared.Answer.TheVariants.{Done, Refused}
 use Rattle.turning.specs.Turn.{turned}
 use Rattle.entry.specs.Entries.{new_of, loaded_at, load_of, open_of, window_open_of, turn_of, close_of}
-use Rattle.archive.specs.declared.Found.TheVariants.{At, Refused as NotFound}
-use Rattle.archive.specs.Archive.{range_answer, farm_open_of}
+use Rattle.archive.specs.Archive.{At, Refused as NotFound, range_answer, farm_open_of}
+use Rattle.entry.specs.Answer.{Done, Refused}
 
 -- the document's small segment but for its last two bytes: SLDC 5 and SLDC 7, or others
 unfoldable pub segment : ℕ → ℕ → List ℕ

@@ -17,15 +17,14 @@ ghost use Rattle.turning.specs.Turn.{turn_ruling, output_of};
 ghost use Rattle.sound.specs.Bench.{world_of};
 ghost use Rattle.sound.specs.Sound.{sound_b};
 ghost use Rattle.entry.specs.Answer.{result_of};
-ghost use Rattle.entry.specs.Entries.{new_of, load_of, open_of, window_open_of, turn_of, close_of};
+ghost use Rattle.entry.specs.Entries.{new_of, new_by, load_of, open_of, window_open_of, turn_of, close_of};
 ghost use Rattle.archive_records.specs.Records.{records_in, first_fall};
-ghost use Rattle.archive.specs.Archive.{archive_checks, range_answer, farm_open_of};
+ghost use Rattle.archive.specs.Archive.{archive_checks, found_of, range_answer, farm_open_of};
 
-use archive::Found;
 use bench::{Out, Window};
 use instruction::Instruction;
-use operand::Operand;
-use segment::{Routine, Segment, Verdict};
+use operand::{Missing, Operand};
+use segment::{Refusal, Routine, Segment};
 use sound::Bench;
 
 // ---- any bytes: a segment
@@ -42,7 +41,7 @@ pub fn routine(seg: &[u8], k: u16) -> Routine
     segment::routine_of(seg, k)
 }
 
-pub fn judge(seg: &[u8]) -> Verdict
+pub fn judge(seg: &[u8]) -> Result<(), Refusal>
     ensures { ruling_of result ≡ judged seg.now }
 {
     checks::judge(seg)
@@ -54,7 +53,7 @@ pub fn accepts(seg: &[u8]) -> bool
     checks::accepts(seg)
 }
 
-pub fn turn_segment(seg: &[u8], out: &mut [u8]) -> Verdict
+pub fn turn_segment(seg: &[u8], out: &mut [u8]) -> Result<(), Refusal>
     ensures answer { ruling_of result ≡ turn_ruling seg.now (length out.old) }
     ensures output { out.new ≡ output_of seg.now out.old }
 {
@@ -62,7 +61,7 @@ pub fn turn_segment(seg: &[u8], out: &mut [u8]) -> Verdict
 }
 
 // An operand at any offset, of the form with this number.
-pub fn operand(seg: &[u8], at: usize, form: u8) -> Operand
+pub fn operand(seg: &[u8], at: usize, form: u8) -> Result<Operand, Missing>
     ensures { fetched_of result ≡ fetched (form_at form) seg.now at }
 {
     reader::read_at(seg, at, form)
@@ -99,7 +98,7 @@ pub fn is_sound(b: Bench, memory: &[u16], store: &[u8]) -> bool
 }
 
 pub fn new_bench(n: usize, s: usize) -> Out
-    ensures { result ≡ new_of n s }
+    ensures { new_by result ≡ new_of n s }
 {
     bench::new_bench(n, s)
 }
@@ -143,14 +142,14 @@ pub fn close(b: Bench, memory: &mut [u16], store: &[u8], i: usize) -> Out
 
 // ---- the archive of a bench
 
-pub fn accept(b: Bench, memory: &[u16], store: &[u8]) -> Verdict
+pub fn accept(b: Bench, memory: &[u16], store: &[u8]) -> Result<(), Refusal>
     ensures { ruling_of result ≡ ruling (archive_checks store.now (world_of b memory.now)) }
 {
     archive::accept(b, memory, store)
 }
 
-pub fn range(b: Bench, memory: &[u16], store: &[u8], farm: u16) -> Found
-    ensures { result ≡ range_answer store.now farm (world_of b memory.now) }
+pub fn range(b: Bench, memory: &[u16], store: &[u8], farm: u16) -> Result<Window, Refusal>
+    ensures { found_of result ≡ range_answer store.now farm (world_of b memory.now) }
 {
     archive::range(b, memory, store, farm)
 }

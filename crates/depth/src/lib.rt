@@ -2,7 +2,7 @@
 // Above it: what is told of a session. Below it: nothing; what the numbers mean, and that they are the right ones to order by, is in specs/.
 #![tactic(auto)]
 
-ghost use Rattle.std.specs.Prelude.{◌≡◌, ◌-◌};
+ghost use Rattle.std.specs.Prelude.{◌≡◌};
 ghost use Rattle.depth.specs.Depth.{unreached, told};
 
 // The least words that an opening takes.
@@ -12,30 +12,13 @@ pub const LEAST: usize = 16;
 pub fn unreached(floor: usize, lowest: usize) -> usize
     ensures { result ≡ unreached floor lowest }
 {
-    less(lowest, floor)
+    lowest.saturating_sub(floor)
 }
 
-// The least words of a region whose stack would have been enough. The sum of any session's numbers fits; it is tested since these may be any.
+// The least words of a region whose stack would have been enough. The sum of any session's numbers fits; it stays the largest number since these may be any.
 pub fn enough(floor: usize, len: usize, lowest: usize) -> usize
     ensures { result ≡ told floor len lowest }
 {
-    let deepest = less(len, lowest);
-    if usize::MAX - floor < deepest {
-        return usize::MAX;
-    }
-    let words = floor + deepest;
-    if words < LEAST {
-        return LEAST;
-    }
-    words
-}
-
-// The difference, or 0 where b is more.
-fn less(a: usize, b: usize) -> usize
-    ensures { result ≡ a - b }
-{
-    if a < b {
-        return 0;
-    }
-    a - b
+    let deepest = len.saturating_sub(lowest);
+    floor.saturating_add(deepest).max(LEAST)
 }

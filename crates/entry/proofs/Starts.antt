@@ -12,8 +12,9 @@ use borrow.Author.Tests.{le-leb, lt-leb, leb-true, eqb-true}
 use Rattle.basis.specs.Checks.{Check, check, passed, refused, ruling}
 use Rattle.basis.proofs.Bools.{both_true}
 use Rattle.basis.proofs.Checks.{needed}
-use Rattle.segment.specs.declared.Verdict.{Verdict}
-use Rattle.segment.specs.declared.Verdict.TheVariants.{Accepted, Refused as Rejected}
+use Rattle.std.specs.Prelude.{⊤, Result, Ok, Err}
+use Rattle.segment.specs.declared.refusal.Refusal.{Refusal}
+use Rattle.segment.specs.Refusals.{number_of, place_of}
 use Rattle.segment.specs.Judge.{ruling_of}
 use Rattle.sound.specs.declared.Session.{Session}
 use Rattle.sound.specs.declared.Slot.{Slot}
@@ -41,18 +42,18 @@ pub record Going (store : List ℕ) (w : World) (i : ℕ) (se : Session) : Type 
   pub session : Opened store w se
 
 -- the verdict of the guard: the refusal of every list of checks that begins so, or what holds from then on
-pub record Guarded (store : List ℕ) (w : World) (asked : Bool) (v : Verdict) (P : Type 0) : Type 0 where
-  pub refuses : (ds : List Check) (n p : ℕ) → v ≡ Rejected n p → ruling (begins store w asked ++ ds) ≡ refused n p
-  pub goes : v ≡ Accepted → P
+pub record Guarded (store : List ℕ) (w : World) (asked : Bool) (v : Result ⊤ Refusal) (P : Type 0) : Type 0 where
+  pub refuses : (ds : List Check) (r : Refusal) → v ≡ Err r → ruling (begins store w asked ++ ds) ≡ refused (number_of r) (place_of r)
+  pub goes : {u : ⊤} → v ≡ Ok u → P
 
-pub guarded : (store : List ℕ) (w : World) (named asked : Bool) (v : Verdict) → ruling_of v ≡ ruling (begins store w named) → named ≡ asked → Guarded store w asked v (Begun store w asked)
+pub guarded : (store : List ℕ) (w : World) (named asked : Bool) (v : Result ⊤ Refusal) → ruling_of v ≡ ruling (begins store w named) → named ≡ asked → Guarded store w asked v (Begun store w asked)
 unfolding ruling
-guarded store w named asked v h e = record { refuses = λ ds n p f. refused_first (begins store w asked) ds n p (sym rules ∙ ap ruling_of f); goes = goes }
+guarded store w named asked v h e = record { refuses = λ ds r f. refused_first (begins store w asked) ds _ _ (sym rules ∙ ap ruling_of f); goes = goes }
   where
     rules : ruling_of v ≡ ruling (begins store w asked)
     rules = rw e at h
 
-    goes : v ≡ Accepted → Begun store w asked
+    goes : {u : ⊤} → v ≡ Ok u → Begun store w asked
     goes f =
         let p = sym rules ∙ ap ruling_of f in
         let a = needed (is_sound store w) 11 0 (ruling (check 12 0 asked ∷ [])) p in
@@ -73,7 +74,7 @@ module _ {A : Type 0} (p : A → Bool) (l : List A) (i : ℕ) (d : A) (o : lengt
   in_sixteen = rw e
       (decided (dec_lt 15 i) (λ h. rw (lt-leb i 15 h) (ap p (get_or-eq_default l d {n = i} (omega arith)) ∙ n)) (λ h. rw (le-leb i 15 (omega arith))))
 
-module _ (store : List ℕ) (w : World) (i : ℕ) (v : Verdict) where
+module _ (store : List ℕ) (w : World) (i : ℕ) (v : Result ⊤ Refusal) where
   pub slot_guarded : length w.bench.slots ≡ 16 → (sl : Slot) → sl ≡ slot_at w.bench.slots i → ruling_of v ≡ ruling (begins store w sl.loaded)
       → Guarded store w (loaded_at w i) v (Begun store w (loaded_at w i))
   slot_guarded o sl e h = guarded store w sl.loaded (loaded_at w i) v h (in_sixteen (λ (x : Slot). x.loaded) w.bench.slots i no_slot o refl sl e)

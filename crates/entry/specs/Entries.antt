@@ -1,6 +1,6 @@
 -- What each entry answers and leaves, on every input: new bench, loading, opening, a turn, closing. Each with its refusals in their order.
 -- Above: a crate for each entry, promises, isolation. Below: Answer, and sound's definitions.
-use Rattle.std.specs.Prelude.{List, [], ◌∷◌, ◌++◌, Bool, true, false, cond, ◌&&◌, ◌||◌, not, ℕ, zero, suc, ◌+◌, ◌%◌, leb, eqb, length, get_or, set, replicate}
+use Rattle.std.specs.Prelude.{List, [], ◌∷◌, ◌++◌, Bool, true, cond, ◌&&◌, ◌||◌, not, ℕ, zero, suc, ◌+◌, ◌%◌, leb, ltb, eqb, length, set, replicate}
 use Rattle.basis.specs.Bools.{every}
 use Rattle.basis.specs.Checks.{Check, check, Ruling, passed, refused, is_passed}
 use Rattle.basis.specs.Part.{splice}
@@ -13,10 +13,8 @@ use Rattle.sound.specs.declared.Window.{Window}
 use Rattle.sound.specs.declared.Session.{Session}
 use Rattle.sound.specs.declared.Bench.{Bench}
 use Rattle.entry.specs.declared.Out.{Out}
-use Rattle.entry.specs.declared.Gap.{Gap}
-use Rattle.entry.specs.declared.Gap.TheVariants.{At, Full}
-use Rattle.entry.specs.declared.Answer.TheVariants.{Done, Refused}
-use Rattle.entry.specs.Answer.{Result, done, refusing}
+use Rattle.std.specs.Prelude.{Option, Some, None}
+use Rattle.entry.specs.Answer.{Answer, Done, Refused, answer_of, Result, done, refusing}
 
 -- ---- 11 and then 12, with which every request to a slot or a session begins
 
@@ -55,11 +53,19 @@ abbrev pub empty_bench : ℕ → ℕ → Bench
 empty_bench n s = record { n = n; s = s; slots = replicate 16 no_slot; sessions = replicate 16 no_session }
 
 -- 17: "S or N beyond its limit"
-unfoldable pub new_of : ℕ → ℕ → Out
+pub record New : Type 0 where
+  pub answer : Answer
+  pub bench : Bench
+
+unfoldable pub new_of : ℕ → ℕ → New
 new_of n s =
     cond (limits_ok n s)
     (record { answer = Done 0; bench = empty_bench n s })
     (record { answer = Refused 17 0; bench = empty_bench 0 0 })
+
+-- what a function returned
+abbrev pub new_by : Out → New
+new_by r = record { answer = answer_of r.answer; bench = r.bench }
 
 -- ---- loading: 11, 12, 17, then 1 to 8
 
@@ -90,6 +96,10 @@ abbrev pub first_place : {A : Type 0} → (A → Bool) → List A → ℕ
 first_place p [] = 0
 first_place p (x ∷ l) = cond (p x) 0 (first_place p l + 1)
 
+-- the same place, if there is one
+abbrev pub first_of : {A : Type 0} → (A → Bool) → List A → Option ℕ
+first_of p l = cond (ltb (first_place p l) (length l)) (Some (first_place p l)) None
+
 abbrev pub unused : Session → Bool
 unused se = not se.used
 
@@ -108,28 +118,28 @@ unfoldable pub gap_at : List Session → ℕ → ℕ → ℕ → ℕ → Bool
 gap_at sessions s n len a = every (leb s a ∷ leb (a + len) n ∷ all (clear_of a len) sessions ∷ [])
 
 -- the lowest number that passes, of so many from a on
-abbrev pub lowest : (ℕ → Bool) → ℕ → ℕ → Gap
-lowest p zero a = Full
-lowest p (suc f) a = cond (p a) (At a) (lowest p f (a + 1))
+abbrev pub lowest : (ℕ → Bool) → ℕ → ℕ → Option ℕ
+lowest p zero a = None
+lowest p (suc f) a = cond (p a) (Some a) (lowest p f (a + 1))
 
 -- 15: "no gap of L free words". "Opening gives the lowest gap that fits."
-unfoldable pub gap_of : List Session → ℕ → ℕ → ℕ → Gap
+unfoldable pub gap_of : List Session → ℕ → ℕ → ℕ → Option ℕ
 gap_of sessions s n len = lowest (gap_at sessions s n len) (n + 1) 0
 
-abbrev pub gap_for : World → ℕ → Gap
+abbrev pub gap_for : World → ℕ → Option ℕ
 gap_for w len = gap_of w.bench.sessions w.bench.s w.bench.n len
 
 -- the paper's number of each case of the code's answer, and its value
-abbrev pub gap_ruling : Gap → Ruling
-gap_ruling (At a) = passed
-gap_ruling Full = refused 15 0
+abbrev pub gap_ruling : Option ℕ → Ruling
+gap_ruling (Some a) = passed
+gap_ruling None = refused 15 0
 
-abbrev pub found : Gap → Bool
+abbrev pub found : Option ℕ → Bool
 found g = is_passed (gap_ruling g)
 
-abbrev pub place_in : Gap → ℕ
-place_in (At a) = a
-place_in Full = 0
+abbrev pub place_in : Option ℕ → ℕ
+place_in (Some a) = a
+place_in None = 0
 
 -- "sets every word of the region to zero, and starts routine 1"; request 7: "The runner's session record gains the window"
 abbrev pub opens : ℕ → ℕ → Window → Cpu → ℕ → ℕ → World → Result

@@ -7,7 +7,7 @@ ghost use Rattle.segment.specs.Judge.{ruling_of};
 ghost use Rattle.sound.specs.Bench.{world_of};
 ghost use Rattle.entry.specs.Entries.{begins, free_slot};
 
-use segment::Verdict;
+use segment::Refusal;
 use sound::Bench;
 use sound_test::is_sound;
 
@@ -15,28 +15,18 @@ use sound_test::is_sound;
 pub fn is_free(b: Bench, slot: usize) -> bool
     ensures { result ≡ free_slot (world_of b []) slot }
 {
-    if 15 < slot {
-        return false;
-    }
-    let sl = b.slots[slot];
-    !sl.loaded
+    slot <= 15 && !b.slots[slot].loaded
 }
 
-// The verdict of 11, and then of 12, where `named` says whether what the request names passes it.
-pub fn guard(b: Bench, memory: &[u16], store: &[u8], named: bool) -> Verdict
+// 11, and then 12, where `named` says whether what the request names passes it.
+pub fn guard(b: Bench, memory: &[u16], store: &[u8], named: bool) -> Result<(), Refusal>
     ensures { ruling_of result ≡ ruling (begins store.now (world_of b memory.now) named) }
 {
     if !is_sound(b, memory, store) {
-        return Verdict::Refused {
-            number: 11,
-            place: 0,
-        };
+        return Err(Refusal::Unsound);
     }
     if !named {
-        return Verdict::Refused {
-            number: 12,
-            place: 0,
-        };
+        return Err(Refusal::NotThere);
     }
-    Verdict::Accepted
+    Ok(())
 }

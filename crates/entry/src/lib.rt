@@ -3,9 +3,11 @@
 #![tactic(auto)]
 
 ghost use Rattle.std.specs.Prelude.{◌≡◌, List, ℕ};
+ghost use Rattle.segment.specs.Refusals.{number_of, place_of};
 ghost use Rattle.sound.specs.Bench.{world_of};
 ghost use Rattle.entry.specs.Answer.{result_of, refused_at};
 
+use segment::Refusal;
 use sound::Bench;
 
 mod begun;
@@ -14,32 +16,22 @@ mod written;
 pub use begun::{guard, is_free};
 pub use written::{clear, clear_words, with_session};
 
-// What an entry answers: the steps done, the session's number, or 0; or a refusal's number and place.
-#[derive(Clone, Copy)]
-pub enum Answer {
-    Done(u32),
-    Refused(u8, u16),
-}
+// Kept: the bench, the memory and the store are three parameters of every entry, and no struct, since the contracts of the entries, which README and
+// docs name, say what each is lent for: a turn writes the memory, a loading reads it, none writes the store.
 
+// What an entry answers, the steps done, the session's number, or 0, or why it refuses; and the bench as it leaves it.
 #[derive(Clone, Copy)]
 pub struct Out {
-    pub answer: Answer,
+    pub answer: Result<u32, Refusal>,
     pub bench: Bench,
 }
 
-// Where a gap starts.
-#[derive(Clone, Copy)]
-pub enum Gap {
-    At(usize),
-    Full,
-}
-
 // A refusal: the bench is as it was, with any memory.
-pub fn refuse(b: Bench, number: u8, place: u16) -> Out
-    ensures { (m : List ℕ) → result_of result m ≡ refused_at number place (world_of b m) }
+pub fn refuse(b: Bench, refusal: Refusal) -> Out
+    ensures { (m : List ℕ) → result_of result m ≡ refused_at (number_of refusal) (place_of refusal) (world_of b m) }
 {
     Out {
-        answer: Answer::Refused(number, place),
+        answer: Err(refusal),
         bench: b,
     }
 }

@@ -1,4 +1,4 @@
-// The writing of one session: its record, and its words. Words that become zero are one loop.
+// The writing of one session: its record, and its words.
 // Above: opening, a turn and closing. Below: sound for the types.
 ghost use Rattle.std.specs.Prelude.{◌≡◌, ◌+◌, ◌≤◌, length, replicate, set};
 ghost use Rattle.sound.specs.Bench.{world_of, at_sessions};
@@ -9,11 +9,7 @@ use sound::{Bench, Session};
 pub fn clear_words(r: &mut [u16])
     ensures { r.new ≡ replicate (length r.old) 0 }
 {
-    let mut i: usize = 0;
-    while i < r.len() {
-        r[i] = 0;
-        i += 1;
-    }
+    r.fill(0);
 }
 
 // The bench with session record i replaced.

@@ -7,8 +7,8 @@ ghost use Rattle.sound.specs.Bench.{world_of};
 ghost use Rattle.entry.specs.Answer.{result_of};
 ghost use Rattle.entry.specs.Entries.{close_of};
 
-use entry::{Answer, Out, clear, guard, refuse};
-use segment::Verdict;
+use entry::{Out, clear, guard, refuse};
+use segment::Refusal;
 use sound::{Bench, no_session, session_at};
 
 // Session i. Refusals 11, 12.
@@ -16,13 +16,12 @@ pub fn close(b: Bench, memory: &mut [u16], store: &[u8], i: usize) -> Out
     ensures { result_of result memory.new ≡ close_of store.now i (world_of b memory.old) }
 {
     let se = session_at(b, i);
-    let v = guard(b, memory, store, se.used);
-    if let Verdict::Refused { number, place } = v {
-        return refuse(b, number, place);
+    if let Err(refusal) = guard(b, memory, store, se.used) {
+        return refuse(b, refusal);
     }
     let out = clear(b, memory, i, no_session(), se.base, se.len);
     Out {
-        answer: Answer::Done(0),
+        answer: Ok(0),
         bench: out,
     }
 }

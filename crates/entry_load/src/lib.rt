@@ -5,11 +5,11 @@
 ghost use Rattle.std.specs.Prelude.{◌≡◌, ◌≤◌, set};
 ghost use Rattle.sound.specs.Bench.{world_of, at_slots};
 ghost use Rattle.entry.specs.Answer.{result_of};
-ghost use Rattle.entry.specs.Entries.{range_ok, loaded_slot, load_of};
+ghost use Rattle.entry.specs.Entries.{range_ok, load_of};
 
 use bounds::{both, code_of, ends_by};
-use entry::{Answer, Out, guard, is_free, refuse};
-use segment::Verdict;
+use entry::{Out, guard, is_free, refuse};
+use segment::Refusal;
 use sound::{Bench, Slot};
 
 fn range_ok(store: &[u8], start: usize, len: usize) -> bool
@@ -18,16 +18,12 @@ fn range_ok(store: &[u8], start: usize, len: usize) -> bool
     both(start % 2 == 0, ends_by(start, len, store.len()))
 }
 
-fn with_slot(b: Bench, i: usize, start: usize, len: usize) -> Bench
+fn with_slot(b: Bench, i: usize, sl: Slot) -> Bench
     requires { i ≤ 15 }
-    ensures { result ≡ at_slots b (set b.slots i (loaded_slot start len)) }
+    ensures { result ≡ at_slots b (set b.slots i sl) }
 {
     let mut out = b;
-    out.slots[i] = Slot {
-        loaded: true,
-        start: start,
-        len: len,
-    };
+    out.slots[i] = sl;
     out
 }
 
@@ -35,24 +31,22 @@ fn with_slot(b: Bench, i: usize, start: usize, len: usize) -> Bench
 pub fn load(b: Bench, memory: &[u16], store: &[u8], slot: usize, start: usize, len: usize) -> Out
     ensures { result_of result memory.now ≡ load_of store.now slot start len (world_of b memory.now) }
 {
-    let begun = guard(b, memory, store, is_free(b, slot));
-    if let Verdict::Refused { number, place } = begun {
-        return refuse(b, number, place);
+    if let Err(refusal) = guard(b, memory, store, is_free(b, slot)) {
+        return refuse(b, refusal);
     }
     if !range_ok(store, start, len) {
-        return refuse(b, 17, 0);
+        return refuse(b, Refusal::Limits);
     }
-    let v = checks::judge(code_of(store, start, len));
-    if let Verdict::Refused {
-        number,
-        place: routine,
-    } = v
-    {
-        return refuse(b, number, routine);
+    if let Err(fault) = checks::judge(code_of(store, start, len)) {
+        return refuse(b, fault);
     }
-    let out = with_slot(b, slot, start, len);
+    let sl = Slot {
+        loaded: true,
+        start,
+        len,
+    };
     Out {
-        answer: Answer::Done(0),
-        bench: out,
+        answer: Ok(0),
+        bench: with_slot(b, slot, sl),
     }
 }

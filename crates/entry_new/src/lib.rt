@@ -3,38 +3,35 @@
 #![tactic(auto)]
 
 ghost use Rattle.std.specs.Prelude.{◌≡◌};
-ghost use Rattle.entry.specs.Entries.{empty_bench, new_of};
+ghost use Rattle.entry.specs.Entries.{empty_bench, new_of, new_by};
 
-use entry::{Answer, Out};
+use entry::Out;
+use segment::Refusal;
 use sound::{Bench, limits_ok, no_session, no_slot};
 
 fn empty(n: usize, s: usize) -> Bench
     ensures { result ≡ empty_bench n s }
 {
-    let slot = no_slot();
-    let session = no_session();
-    let slots = [slot; 16];
-    let sessions = [session; 16];
     Bench {
-        n: n,
-        s: s,
-        slots: slots,
-        sessions: sessions,
+        n,
+        s,
+        slots: [no_slot(); 16],
+        sessions: [no_session(); 16],
     }
 }
 
 // For a memory of n words of which the first s are shared. Refusal 17; the bench beside it is then an empty one for no memory.
 pub fn new_bench(n: usize, s: usize) -> Out
-    ensures { result ≡ new_of n s }
+    ensures { new_by result ≡ new_of n s }
 {
     if limits_ok(n, s) {
         return Out {
-            answer: Answer::Done(0),
+            answer: Ok(0),
             bench: empty(n, s),
         };
     }
     Out {
-        answer: Answer::Refused(17, 0),
+        answer: Err(Refusal::Limits),
         bench: empty(0, 0),
     }
 }

@@ -8,8 +8,8 @@ ghost use Rattle.entry.specs.Answer.{result_of};
 ghost use Rattle.entry.specs.Entries.{len_ok, window_open_of, open_of};
 
 use bounds::{at_most, both, code_of, ends_by};
-use entry::{Answer, Gap, Out, clear, guard, refuse};
-use segment::Verdict;
+use entry::{Out, clear, guard, refuse};
+use segment::Refusal;
 use session::start_cpu;
 use sound::{Bench, Session, Window, slot_at};
 
@@ -40,31 +40,24 @@ pub fn open_window(
     ensures { result_of result memory.new ≡ window_open_of store.now slot len window (world_of b memory.old) }
 {
     let sl = slot_at(b, slot);
-    let v = guard(b, memory, store, sl.loaded);
-    if let Verdict::Refused { number, place } = v {
-        return refuse(b, number, place);
+    if let Err(refusal) = guard(b, memory, store, sl.loaded) {
+        return refuse(b, refusal);
     }
     let code = code_of(store, sl.start, sl.len);
     let inside = ends_by(window.first, window.len, b.s);
     if !both(len_ok(code, len), inside) {
-        return refuse(b, 13, 0);
+        return refuse(b, Refusal::RegionLength);
     }
-    let sessions = b.sessions;
-    let i = first_unused(sessions);
-    if 15 < i {
-        return refuse(b, 14, 0);
-    }
-    let gap = gap_for(sessions, b.s, b.n, len);
-    match gap {
-        Gap::At(a) => {
-            let se = Session::fresh(slot, a, len, window, start_cpu(code, len));
-            let out = clear(b, memory, i, se, a, len);
-            Out {
-                answer: Answer::Done(i as u32),
-                bench: out,
-            }
-        }
-        Gap::Full => refuse(b, 15, 0),
+    let Some(i) = first_unused(b.sessions) else {
+        return refuse(b, Refusal::NoRecord);
+    };
+    let Some(a) = gap_for(b.sessions, b.s, b.n, len) else {
+        return refuse(b, Refusal::NoGap);
+    };
+    let se = Session::fresh(slot, a, len, window, start_cpu(code, len));
+    Out {
+        answer: Ok(i as u32),
+        bench: clear(b, memory, i, se, a, len),
     }
 }
 

@@ -10,7 +10,7 @@ ghost use Rattle.steps.specs.Memory.{Placed};
 use machine::{Cpu, Kind};
 use plan::Regs;
 
-// The registers and the kind as eight numbers: 0, 1 or 2 for ready, finished and faulted.
+// The registers and the kind as the eight numbers of the C interface: 0, 1 or 2 for ready, finished and faulted.
 fn told(q: Cpu, after: &mut [u64; 8]) {
     let g = q.regs;
     after[0] = g.sp as u64;
@@ -18,8 +18,7 @@ fn told(q: Cpu, after: &mut [u64; 8]) {
     after[2] = g.counter as u64;
     after[3] = g.routine as u64;
     after[4] = g.lowest as u64;
-    let kind = q.kind;
-    match kind {
+    match q.kind {
         Kind::Ready => {
             after[5] = 0;
         }
@@ -28,7 +27,7 @@ fn told(q: Cpu, after: &mut [u64; 8]) {
         }
         Kind::Faulted(n, place) => {
             after[5] = 2;
-            after[6] = n as u64;
+            after[6] = u64::from(n);
             after[7] = place as u64;
         }
     }
@@ -60,8 +59,7 @@ fn turn_from(
         },
         k,
     );
-    let q = t.cpu;
-    told(q, after);
+    told(t.cpu, after);
     t.done
 }
 

@@ -2,31 +2,46 @@
 // Below: `archive`, `bench`. It stands apart from `export_bench`, since the compiler shapes the turn's loop there by what else stands beside it.
 #![tactic(auto)]
 
-use archive::Found;
-use bench::{Answer, Bench};
+use bench::{Bench, Refusal};
 
-// One more where the request was not refused: the caller can tell that it timed what it meant to.
-fn counted(done: u64, answer: Answer) -> u64 {
+// What is asked, by its number in speed/entries.c.
+#[derive(Clone, Copy)]
+enum Request {
+    // The range of a farm.
+    Find,
+    // A session of 1,000 words for it on slot 0.
+    Open,
+}
+
+impl From<u64> for Request {
+    fn from(what: u64) -> Self {
+        match what {
+            0 => Request::Find,
+            _ => Request::Open,
+        }
+    }
+}
+
+// One more where the request was not refused: the caller can tell that it timed what it meant to. `export_bench` has the same for
+// itself: a crate below both for these few lines would be no plainer.
+fn counted(done: u64, answer: Result<u32, Refusal>) -> u64 {
     match answer {
-        Answer::Done(_) => done % 4294967296 + 1,
-        Answer::Refused(_, _) => done,
+        Ok(_) => done % 4294967296 + 1,
+        Err(_) => done,
     }
 }
 
-fn found(r: Found) -> Answer {
-    match r {
-        Found::At(_) => Answer::Done(0),
-        Found::Refused(number, place) => Answer::Refused(number, place),
+fn ask(
+    b: Bench,
+    memory: &mut [u16],
+    store: &[u8],
+    asked: Request,
+    farm: u16,
+) -> Result<u32, Refusal> {
+    match asked {
+        Request::Find => archive::range(b, memory, store, farm).map(|_| 0),
+        Request::Open => archive::open_farm(b, memory, store, 0, 1000, farm).answer,
     }
-}
-
-// One request: 0 finds the range of a farm, any other opens a session of 1,000 words for it on slot 0.
-fn ask(b: Bench, memory: &mut [u16], store: &[u8], what: u64, farm: u16) -> Answer {
-    if what == 0 {
-        return found(archive::range(b, memory, store, farm));
-    }
-    let out = archive::open_farm(b, memory, store, 0, 1000, farm);
-    out.answer
 }
 
 // The same request of the same bench so many times; answers how many were not refused. The bench after each is dropped, so that it can be asked again.
@@ -34,18 +49,14 @@ fn rounds_of(
     b: Bench,
     memory: &mut [u16],
     store: &[u8],
-    what: u64,
+    asked: Request,
     farm: u16,
     rounds: usize,
 ) -> u64 {
-    let mut done: u64 = 0;
-    let mut left = rounds;
-    while 0 < left {
-        let answer = ask(b, memory, store, what, farm);
-        done = counted(done, answer);
-        left -= 1;
-    }
-    done
+    (0..rounds).fold(
+        0,
+        |done, _| counted(done, ask(b, memory, store, asked, farm)),
+    )
 }
 
 // Asks a bench with the whole store in slot 0 and no session, whose first so many words are an archive. With no round it only builds the bench, so that
@@ -65,7 +76,7 @@ pub extern "C" fn archive_asked(
         out.bench,
         memory,
         store,
-        what,
+        Request::from(what),
         (farm % 65536) as u16,
         rounds,
     )

@@ -7,11 +7,12 @@ use mathlib.Core.Bool.{Bool, true}
 use mathlib.Core.List.{List, [], ◌∷◌}
 use lib.Dec.{ltb}
 use lib.ListN.{length, drop}
+use Rattle.std.specs.Prelude.{Result, Ok, Err}
 use borrow.Author.Tests.{ltb-true, ltb-false, lt-ltb, le-ltb}
 use Rattle.basis.proofs.Bools.{cond_holds}
 use Rattle.operand.specs.Bytes.{byte_at}
 use Rattle.operand.specs.declared.Operand.{Operand}
-use Rattle.operand.specs.declared.Operand.TheVariants.{Got, Out}
+use Rattle.operand.specs.declared.Missing.{Missing}
 use Rattle.operand.specs.Operand.{Form, Fetched, got, out, if_there, fetched, fetched_of, operand_value, form_at}
 use Rattle.pmachine.specs.Opcode.{Row, is_carried, forms_of, taken_of, given_of, opcode}
 use Rattle.pmachine.specs.Decoding.{Operands, joined, and_then, operands}
@@ -32,9 +33,9 @@ abbrev pub value_of : Fetched → ℕ
 value_of (got v next) = v
 value_of (out place) = 0
 
-pub value_is : (o : Operand) → operand_value o ≡ value_of (fetched_of o)
-value_is (Got v next) = refl
-value_is (Out place) = refl
+pub value_is : (o : Result Operand Missing) → operand_value o ≡ value_of (fetched_of o)
+value_is (Ok o) = refl
+value_is (Err m) = refl
 
 -- the operand of the first of these forms, after another
 abbrev following : List ℕ → Fetched → List Form → Fetched

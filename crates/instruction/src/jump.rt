@@ -12,6 +12,7 @@ pub enum Target {
 }
 
 // Jumps count from the byte after the instruction, by a distance in two's complement.
+#[tactic(auto, unfolding(pmachine::specs::Step::target))]
 pub fn leads_to(next: u16, distance: u16) -> Target
     ensures { byte_of result ≡ target next distance }
 {

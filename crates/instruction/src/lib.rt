@@ -15,7 +15,7 @@ ghost use Rattle.instruction.specs.Decodes.{Reads};
 ghost use Rattle.instruction.specs.Parts.{by_digit, after as afterIt};
 
 pub use jump::{Target, leads_to};
-use operand::Operand;
+use operand::{Missing, Operand};
 pub use place::{fetches_to, place_of};
 pub use recorded::is_recorded;
 
@@ -48,31 +48,30 @@ fn row_of(first: u8) -> u32
 }
 
 // An operand by its form's digit; and for none, digit 0, the value 0 at no bytes.
-fn by_form(seg: &[u8], digit: u8, at: usize) -> Operand
+#[tactic(auto, unfolding(crate::specs::Parts::by_digit))]
+fn by_form(seg: &[u8], digit: u8, at: usize) -> Result<Operand, Missing>
     ensures { fetched_of result ≡ by_digit digit seg.now at }
 {
     if digit == 0 {
-        return Operand::Got { value: 0, next: at };
+        return Ok(Operand { value: 0, next: at });
     }
     reader::read_at(seg, at, digit)
 }
 
 // The operand after one that was fetched; if that one is not there, none after it is.
-fn after(seg: &[u8], before: Operand, digit: u8) -> Operand
+#[tactic(auto, unfolding(crate::specs::Parts::after))]
+fn after(seg: &[u8], before: Result<Operand, Missing>, digit: u8) -> Result<Operand, Missing>
     ensures { fetched_of result ≡ afterIt (fetched_of before) digit seg.now }
 {
-    match before {
-        Operand::Got { value: _, next } => by_form(seg, digit, next),
-        Operand::Out { place } => Operand::Out { place },
-    }
+    by_form(seg, digit, before?.next)
 }
 
-fn value_of(o: Operand) -> u16
+fn value_of(o: Result<Operand, Missing>) -> u16
     ensures { result ≡ operand_value o }
 {
     match o {
-        Operand::Got { value, next: _ } => value,
-        Operand::Out { place: _ } => 0,
+        Ok(o) => o.value,
+        Err(_) => 0,
     }
 }
 
@@ -81,10 +80,9 @@ fn value_of(o: Operand) -> u16
 pub fn read(seg: &[u8], at: usize) -> Instruction
     ensures { Reads seg.now at result }
 {
-    let first = reader::read_at(seg, at, UB);
-    match first {
-        Operand::Got { value, next } => by_row(seg, value as u8, next),
-        Operand::Out { place } => cut(0, true, place),
+    match reader::read_at(seg, at, UB) {
+        Ok(first) => by_row(seg, first.value as u8, first.next),
+        Err(missing) => cut(0, true, missing.place),
     }
 }
 
@@ -97,18 +95,18 @@ fn by_row(seg: &[u8], first: u8, at: usize) -> Instruction
     let y = after(seg, x, ((row / 524288) % 8) as u8);
     let z = after(seg, y, ((row / 4194304) % 8) as u8);
     match z {
-        Operand::Got { value, next } => Instruction {
+        Ok(z) => Instruction {
             first,
             carried: row < MARK,
             whole: true,
             x: value_of(x),
             y: value_of(y),
-            z: value,
+            z: z.value,
             taken: (row % 256) as u8,
             given: ((row / 256) % 256) as u8,
-            next,
+            next: z.next,
         },
-        Operand::Out { place } => cut(first, row < MARK, place),
+        Err(missing) => cut(first, row < MARK, missing.place),
     }
 }
 

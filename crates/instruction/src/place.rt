@@ -25,6 +25,7 @@ pub fn fetches_to(seg: &[u8], at: usize) -> usize
 }
 
 // The place of fault `number` of the instruction at `at`: for 1 the byte where the bytes ran out, for every other its first byte.
+#[tactic(auto, unfolding(pmachine::specs::Run::place_of))]
 pub fn place_of(seg: &[u8], number: u8, at: usize) -> usize
     ensures { result ≡ place_of seg.now number at }
 {

@@ -3,7 +3,7 @@
 use mathlib.Core.Path.{◌≡◌, refl, sym, ap, ◌∙◌}
 use mathlib.Core.List.{List}
 use mathlib.Core.Bool.{Bool, true, false, cond, ◌&&◌, and-false}
-use Prim.Native.Nat.{ℕ, ◌+◌, ◌-◌}
+use Prim.Native.Nat.{ℕ, ◌+◌}
 use native.Mathlib.Omega.{arith}
 use lib.Dec.{leb}
 use lib.ListN.{length}
@@ -17,10 +17,8 @@ use Rattle.sound.specs.Sound.{Sound}
 use Rattle.sound.proofs.Below.{run_keeps, run_length}
 use Rattle.sound.proofs.Lists.{either_way}
 use Rattle.sound.proofs.Facts.{opened, used_below}
-use Rattle.entry.specs.declared.Answer.{Answer}
-use Rattle.entry.specs.declared.Answer.TheVariants.{Done, Refused}
 use Rattle.basis.specs.Checks.{passed, refused, ruling}
-use Rattle.entry.specs.Answer.{Result, done, refused_at, ruled, refusing}
+use Rattle.entry.specs.Answer.{Answer, Done, Refused, Result, done, refused_at, ruled, refusing}
 use Rattle.entry.specs.Entries.{put, ran_of, done_of, turn_of}
 use Rattle.isolation.proofs.Parts.{Public, Private, public_of, private_of, own_state, at_state, put_own, put_other, put_public, put_good}
 use Rattle.isolation.proofs.Whole.{same_world}

@@ -13,12 +13,11 @@ use Rattle.sound.specs.Bench.{World, session_at, code_at, window_at, state_at, a
 use Rattle.sound.specs.Sound.{Sound}
 use Rattle.sound.proofs.Lists.{either_way}
 use Rattle.sound.proofs.Below.{run_none, run_add, count_none, count_add}
-use Rattle.entry.specs.declared.Answer.{Answer}
-use Rattle.entry.specs.declared.Answer.TheVariants.{Done, Refused}
 use Rattle.entry.specs.Entries.{ran_of, turn_of}
 use Rattle.isolation.specs.Isolation.{Turn, after, answers_of, steps_of, reported, reports_of, OnItsOwn, Agree, Isolation}
 use Rattle.isolation.proofs.Parts.{Public, Private, public_of, private_of, own_state, at_state}
 use Rattle.isolation.proofs.Acts.{code_in, seen_in, next_runs, next_16, next_12, says_runs, says_16, says_12, own_state_is, ran_is, turns}
+use Rattle.entry.specs.Answer.{Answer, Done, Refused}
 
 -- the turns of specs/Isolation are the requests of interleave
 after_acts : (store : List ℕ) (ts : List Turn) (w : World) → after store ts w ≡ acts (turns store) ts w

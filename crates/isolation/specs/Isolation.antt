@@ -7,9 +7,7 @@ use Rattle.interleave.specs.Interleave.{By, mine, one_by_one, Below}
 use Rattle.sound.specs.Below.{SessionState, cpu_of, run_of, count_of}
 use Rattle.sound.specs.Bench.{World, session_at, shared_of, words_of, code_at, window_at, state_at, at_cpu}
 use Rattle.sound.specs.Sound.{Sound}
-use Rattle.entry.specs.declared.Answer.{Answer}
-use Rattle.entry.specs.declared.Answer.TheVariants.{Done, Refused}
-use Rattle.entry.specs.Answer.{value_of}
+use Rattle.entry.specs.Answer.{Answer, Done, Refused, value_of}
 use Rattle.entry.specs.Entries.{ran_of, done_of, turn_of}
 
 -- a turn: which session, and how many steps

@@ -12,13 +12,13 @@ ghost use Rattle.plan.specs.Told.{Ready};
 ghost use Rattle.judge.specs.First.{first_of};
 
 use operand::Operand;
-use plan::{Binary, Division, Facts, Link, Planned, Regs, Unary, push, word_of};
+use plan::{Binary, Division, Facts, Planned, Regs, Unary, push, word_of};
 use plan_calls::{branch, call, enter, give_back, jump, reach};
 use plan_places::{address, index, load, pool_offset, store, store_at};
 use plan_pool::{block, case_at, choose, words_at};
 use plan_stack::{check_range, divide, duplicate, one_word, swap, two_words};
 
-// The first byte of an instruction, or no byte of the code.
+// The first byte of an instruction, or no byte of the code. Kept, and no Option: document 01 names the form `let Decoded(..) = decode else fault`.
 #[derive(Clone, Copy)]
 enum Byte {
     Decoded(u8),
@@ -57,103 +57,107 @@ fn act(
         120..=127 => index(region, shared, r, (op - 120) as u16, at),
         // LDCB
         128 => {
-            let Operand::Got { value: a, next } = operand::unsigned(seg, at) else {
+            let Ok(Operand { value: a, next }) = operand::unsigned(seg, at) else {
                 return Planned::Bad(1);
             };
             push(facts.floor, r, next, a)
         }
         // LDCI
         129 => {
-            let Operand::Got { value: a, next } = operand::wide(seg, at) else {
+            let Ok(Operand { value: a, next }) = operand::wide(seg, at) else {
                 return Planned::Bad(1);
             };
             push(facts.floor, r, next, a)
         }
         // LCO
         130 => {
-            let Operand::Got { value: a, next } = operand::big(seg, at) else {
+            let Ok(Operand { value: a, next }) = operand::big(seg, at) else {
                 return Planned::Bad(1);
             };
             pool_offset(seg.len() / 2, facts.pool, facts.floor, r, next, a)
         }
         // LLA
         132 => {
-            let Operand::Got { value: a, next } = operand::big(seg, at) else {
+            let Ok(Operand { value: a, next }) = operand::big(seg, at) else {
                 return Planned::Bad(1);
             };
             address(region, facts.floor, r, r.m, a, next)
         }
         // LDO
         133 => {
-            let Operand::Got { value: a, next } = operand::big(seg, at) else {
+            let Ok(Operand { value: a, next }) = operand::big(seg, at) else {
                 return Planned::Bad(1);
             };
             load(region, facts.floor, r, 1, a, next)
         }
         // LAO
         134 => {
-            let Operand::Got { value: a, next } = operand::big(seg, at) else {
+            let Ok(Operand { value: a, next }) = operand::big(seg, at) else {
                 return Planned::Bad(1);
             };
             address(region, facts.floor, r, 1, a, next)
         }
         // LDL
         135 => {
-            let Operand::Got { value: a, next } = operand::big(seg, at) else {
+            let Ok(Operand { value: a, next }) = operand::big(seg, at) else {
                 return Planned::Bad(1);
             };
             load(region, facts.floor, r, r.m, a, next)
         }
         // LDA
         136 => {
-            let Operand::Got {
-                value: d,
-                next: mid,
-            } = operand::unsigned(seg, at)
+            let Ok(
+                Operand {
+                    value: d,
+                    next: mid,
+                },
+            ) = operand::unsigned(seg, at)
             else {
                 return Planned::Bad(1);
             };
-            let Operand::Got { value: a, next } = operand::big(seg, mid) else {
+            let Ok(Operand { value: a, next }) = operand::big(seg, mid) else {
                 return Planned::Bad(1);
             };
             if DEEPEST < d {
                 return Planned::Bad(2);
             }
-            let Link::Record(rec) = reach(region, r.m, d) else {
+            let Some(rec) = reach(region, r.m, d) else {
                 return Planned::Bad(9);
             };
             address(region, facts.floor, r, rec, a, next)
         }
         // LOD
         137 => {
-            let Operand::Got {
-                value: d,
-                next: mid,
-            } = operand::unsigned(seg, at)
+            let Ok(
+                Operand {
+                    value: d,
+                    next: mid,
+                },
+            ) = operand::unsigned(seg, at)
             else {
                 return Planned::Bad(1);
             };
-            let Operand::Got { value: a, next } = operand::big(seg, mid) else {
+            let Ok(Operand { value: a, next }) = operand::big(seg, mid) else {
                 return Planned::Bad(1);
             };
             if DEEPEST < d {
                 return Planned::Bad(2);
             }
-            let Link::Record(rec) = reach(region, r.m, d) else {
+            let Some(rec) = reach(region, r.m, d) else {
                 return Planned::Bad(9);
             };
             load(region, facts.floor, r, rec, a, next)
         }
         // UJP
         138 => {
-            let Operand::Got { value: a, next } = operand::signed(seg, at) else {
+            let Ok(Operand { value: a, next }) = operand::signed(seg, at) else {
                 return Planned::Bad(1);
             };
             jump(seg.len(), r, r.sp, next, a)
         }
         // JPL
         139 => {
-            let Operand::Got { value: a, next } = operand::wide(seg, at) else {
+            let Ok(Operand { value: a, next }) = operand::wide(seg, at) else {
                 return Planned::Bad(1);
             };
             jump(seg.len(), r, r.sp, next, a)
@@ -166,41 +170,43 @@ fn act(
         143 => divide(region, r, at, Division::Modi),
         // CPL
         144 => {
-            let Operand::Got { value: a, next } = operand::unsigned(seg, at) else {
+            let Ok(Operand { value: a, next }) = operand::unsigned(seg, at) else {
                 return Planned::Bad(1);
             };
             call(r, a, r.m, next, enter(seg, facts, r.sp, a))
         }
         // CPG
         145 => {
-            let Operand::Got { value: a, next } = operand::unsigned(seg, at) else {
+            let Ok(Operand { value: a, next }) = operand::unsigned(seg, at) else {
                 return Planned::Bad(1);
             };
             call(r, a, 1, next, enter(seg, facts, r.sp, a))
         }
         // CPI
         146 => {
-            let Operand::Got {
-                value: d,
-                next: mid,
-            } = operand::unsigned(seg, at)
+            let Ok(
+                Operand {
+                    value: d,
+                    next: mid,
+                },
+            ) = operand::unsigned(seg, at)
             else {
                 return Planned::Bad(1);
             };
-            let Operand::Got { value: a, next } = operand::unsigned(seg, mid) else {
+            let Ok(Operand { value: a, next }) = operand::unsigned(seg, mid) else {
                 return Planned::Bad(1);
             };
             if DEEPEST < d {
                 return Planned::Bad(2);
             }
-            let Link::Record(rec) = reach(region, r.m, d) else {
+            let Some(rec) = reach(region, r.m, d) else {
                 return Planned::Bad(9);
             };
             call(r, a, rec, next, enter(seg, facts, r.sp, a))
         }
         // RPU
         150 => {
-            let Operand::Got { value: a, next: _ } = operand::big(seg, at) else {
+            let Ok(Operand { value: a, next: _ }) = operand::big(seg, at) else {
                 return Planned::Bad(1);
             };
             give_back(seg.len(), facts, region, r, a)
@@ -219,28 +225,30 @@ fn act(
         163 => two_words(region, r, at, Binary::Sbi),
         // STL
         164 => {
-            let Operand::Got { value: a, next } = operand::big(seg, at) else {
+            let Ok(Operand { value: a, next }) = operand::big(seg, at) else {
                 return Planned::Bad(1);
             };
             store(region, r, r.m, a, next)
         }
         // SRO
         165 => {
-            let Operand::Got { value: a, next } = operand::big(seg, at) else {
+            let Ok(Operand { value: a, next }) = operand::big(seg, at) else {
                 return Planned::Bad(1);
             };
             store(region, r, 1, a, next)
         }
         // STR
         166 => {
-            let Operand::Got {
-                value: d,
-                next: mid,
-            } = operand::unsigned(seg, at)
+            let Ok(
+                Operand {
+                    value: d,
+                    next: mid,
+                },
+            ) = operand::unsigned(seg, at)
             else {
                 return Planned::Bad(1);
             };
-            let Operand::Got { value: a, next } = operand::big(seg, mid) else {
+            let Ok(Operand { value: a, next }) = operand::big(seg, mid) else {
                 return Planned::Bad(1);
             };
             if DEEPEST < d {
@@ -249,27 +257,27 @@ fn act(
             if region.len() < r.sp + 1 {
                 return Planned::Bad(3);
             }
-            let Link::Record(rec) = reach(region, r.m, d) else {
+            let Some(rec) = reach(region, r.m, d) else {
                 return Planned::Bad(9);
             };
             store(region, r, rec, a, next)
         }
         // SLOD1
         173 => {
-            let Operand::Got { value: a, next } = operand::big(seg, at) else {
+            let Ok(Operand { value: a, next }) = operand::big(seg, at) else {
                 return Planned::Bad(1);
             };
-            let Link::Record(rec) = reach(region, r.m, 1) else {
+            let Some(rec) = reach(region, r.m, 1) else {
                 return Planned::Bad(9);
             };
             load(region, facts.floor, r, rec, a, next)
         }
         // SLOD2
         174 => {
-            let Operand::Got { value: a, next } = operand::big(seg, at) else {
+            let Ok(Operand { value: a, next }) = operand::big(seg, at) else {
                 return Planned::Bad(1);
             };
-            let Link::Record(rec) = reach(region, r.m, 2) else {
+            let Some(rec) = reach(region, r.m, 2) else {
                 return Planned::Bad(9);
             };
             load(region, facts.floor, r, rec, a, next)
@@ -294,7 +302,7 @@ fn act(
         203 => check_range(region, r, at),
         // FJP
         212 => {
-            let Operand::Got { value: a, next } = operand::signed(seg, at) else {
+            let Ok(Operand { value: a, next }) = operand::signed(seg, at) else {
                 return Planned::Bad(1);
             };
             if region.len() < r.sp + 1 {
@@ -304,7 +312,7 @@ fn act(
         }
         // FJPL
         213 => {
-            let Operand::Got { value: a, next } = operand::wide(seg, at) else {
+            let Ok(Operand { value: a, next }) = operand::wide(seg, at) else {
                 return Planned::Bad(1);
             };
             if region.len() < r.sp + 1 {
@@ -322,7 +330,7 @@ fn act(
         229 => one_word(region, r, at, Unary::Lnot),
         // IND
         230 => {
-            let Operand::Got { value: a, next } = operand::big(seg, at) else {
+            let Ok(Operand { value: a, next }) = operand::big(seg, at) else {
                 return Planned::Bad(1);
             };
             index(region, shared, r, a, next)
@@ -333,27 +341,27 @@ fn act(
         238 => one_word(region, r, at, Unary::Deci),
         // SCPI1
         239 => {
-            let Operand::Got { value: a, next } = operand::unsigned(seg, at) else {
+            let Ok(Operand { value: a, next }) = operand::unsigned(seg, at) else {
                 return Planned::Bad(1);
             };
-            let Link::Record(rec) = reach(region, r.m, 1) else {
+            let Some(rec) = reach(region, r.m, 1) else {
                 return Planned::Bad(9);
             };
             call(r, a, rec, next, enter(seg, facts, r.sp, a))
         }
         // SCPI2
         240 => {
-            let Operand::Got { value: a, next } = operand::unsigned(seg, at) else {
+            let Ok(Operand { value: a, next }) = operand::unsigned(seg, at) else {
                 return Planned::Bad(1);
             };
-            let Link::Record(rec) = reach(region, r.m, 2) else {
+            let Some(rec) = reach(region, r.m, 2) else {
                 return Planned::Bad(9);
             };
             call(r, a, rec, next, enter(seg, facts, r.sp, a))
         }
         // TJP
         241 => {
-            let Operand::Got { value: a, next } = operand::signed(seg, at) else {
+            let Ok(Operand { value: a, next }) = operand::signed(seg, at) else {
                 return Planned::Bad(1);
             };
             if region.len() < r.sp + 1 {
@@ -363,28 +371,32 @@ fn act(
         }
         // LDC
         131 => {
-            let Operand::Got {
-                value: mode,
-                next: mid,
-            } = operand::unsigned(seg, at)
+            let Ok(
+                Operand {
+                    value: mode,
+                    next: mid,
+                },
+            ) = operand::unsigned(seg, at)
             else {
                 return Planned::Bad(1);
             };
-            let Operand::Got {
-                value: b,
-                next: late,
-            } = operand::big(seg, mid)
+            let Ok(
+                Operand {
+                    value: b,
+                    next: late,
+                },
+            ) = operand::big(seg, mid)
             else {
                 return Planned::Bad(1);
             };
-            let Operand::Got { value: n, next } = operand::unsigned(seg, late) else {
+            let Ok(Operand { value: n, next }) = operand::unsigned(seg, late) else {
                 return Planned::Bad(1);
             };
             block(facts.sex, mode, r, n, next, words_at(facts, r.sp, b, n))
         }
         // XJP
         214 => {
-            let Operand::Got { value: b, next } = operand::big(seg, at) else {
+            let Ok(Operand { value: b, next }) = operand::big(seg, at) else {
                 return Planned::Bad(1);
             };
             if region.len() < r.sp + 1 {

@@ -1,7 +1,5 @@
 // The first two columns of a line: the byte place, and the instruction's bytes in hexadecimal.
 // Above it: the lines of a listing. Below it: how the console speaks.
-use text::front;
-
 // The longest instruction has five bytes.
 const WIDTH: usize = 16;
 
@@ -13,40 +11,20 @@ pub fn place(at: usize) {
 
 // The bytes from at up to next.
 pub fn bytes(seg: &[u8], at: usize, next: usize) {
-    let part = between(seg, at, next);
-    each(part);
-    if part.len() < 6 {
-        gap(3 * part.len(), WIDTH);
+    let part = seg.get(at..next).unwrap_or(b"");
+    for &b in part {
+        byte(b);
     }
-}
-
-// The bytes from a up to b, or none where there are not so many.
-fn between(seg: &[u8], a: usize, b: usize) -> &[u8] {
-    if b <= seg.len() {
-        if a <= b {
-            return &seg[a..b];
-        }
-    }
-    front(seg, 0)
-}
-
-fn each(part: &[u8]) {
-    let mut i = 0;
-    while i < part.len() {
-        byte(part[i]);
-        i += 1;
-    }
+    gap(part.len().saturating_mul(3), WIDTH);
 }
 
 // Blanks after so many characters, up to a column's width.
 pub fn gap(used: usize, width: usize) {
-    if used < width {
-        pond_say::blanks(width - used);
-    }
+    pond_say::blanks(width.saturating_sub(used));
 }
 
 // A byte in two digits, with a blank after it.
 fn byte(b: u8) {
-    pond_say::hex(b as u64, 2);
+    pond_say::hex(u64::from(b), 2);
     pond_say::blanks(1);
 }

@@ -15,17 +15,17 @@ pub fn pushed(seg: &[u8], mode: u16, b: u16, n: u16) {
         pond_say::text(b"(no pool)");
         return;
     }
-    let at = h.pool as u32 + b as u32;
+    let at = u32::from(h.pool) + u32::from(b);
     if n == 0 {
         place(at, at);
         pond_say::text(b")");
         return;
     }
-    let last = at + n as u32 - 1;
+    let last = at + u32::from(n) - 1;
     place(at, last);
     if (last as usize) < h.reals {
         pond_say::text(b"): ");
-        words(seg, least_first(h, mode), h, b, n);
+        words(seg, h, mode, b, n);
         return;
     }
     if n > 1 {
@@ -39,22 +39,19 @@ pub fn pushed(seg: &[u8], mode: u16, b: u16, n: u16) {
 
 // Whether such words are read least byte first.
 fn least_first(h: Segment, mode: u16) -> bool {
-    if mode == NUMBERS {
-        return h.least;
-    }
-    true
+    mode != NUMBERS || h.least
 }
 
 // Where words of the segment stand.
 pub fn place(first: u32, last: u32) {
     if first == last {
         pond_say::text(b"(word ");
-        pond_say::number(first as u64);
+        pond_say::number(u64::from(first));
     } else {
         pond_say::text(b"(words ");
-        pond_say::number(first as u64);
+        pond_say::number(u64::from(first));
         pond_say::text(b" to ");
-        pond_say::number(last as u64);
+        pond_say::number(u64::from(last));
     }
 }
 
@@ -67,27 +64,19 @@ pub fn beyond(h: Segment, w: u32) {
     }
 }
 
-// The first words, and how many there are behind them.
-fn words(seg: &[u8], least: bool, h: Segment, b: u16, n: u16) {
-    if n <= SHOWN {
-        each(seg, least, h.pool, b, n);
-        return;
-    }
-    each(seg, least, h.pool, b, SHOWN);
-    pond_say::text(b" and ");
-    pond_say::number((n - SHOWN) as u64);
-    pond_say::text(b" more");
-}
-
-// So many words from word b of the pool on.
-fn each(seg: &[u8], least: bool, pool: u16, b: u16, shown: u16) {
-    let mut k: u16 = 0;
-    while k < shown {
+// The first words from word b of the pool on, and how many there are behind them.
+fn words(seg: &[u8], h: Segment, mode: u16, b: u16, n: u16) {
+    for k in 0..n.min(SHOWN) {
         if k > 0 {
             pond_say::text(b", ");
         }
-        value(operand::word_at(seg, least, pool as u32 + b as u32 + k as u32));
-        k += 1;
+        let at = u32::from(h.pool) + u32::from(b) + u32::from(k);
+        value(operand::word_at(seg, least_first(h, mode), at));
+    }
+    if n > SHOWN {
+        pond_say::text(b" and ");
+        pond_say::number(u64::from(n - SHOWN));
+        pond_say::text(b" more");
     }
 }
 
@@ -96,7 +85,7 @@ fn value(w: u16) {
     pond_say::signed(w);
     if w > 32767 {
         pond_say::text(b" (unsigned ");
-        pond_say::number(w as u64);
+        pond_say::number(u64::from(w));
         pond_say::text(b")");
     }
 }

@@ -2,7 +2,8 @@
 // Above it: whole listings, and what is told of a fault. Below it: `instruction` and the columns.
 ghost use Rattle.std.specs.Prelude.{◌<◌, length};
 
-use crate::{cases, columns, operands, table};
+use crate::table::Entry;
+use crate::{cases, columns, operands};
 use instruction::Instruction;
 use spans::{NAT, NAT_INFO};
 
@@ -36,7 +37,7 @@ pub fn row(seg: &[u8], at: usize) -> usize {
     }
     let i = instruction::read(seg, at);
     columns::bytes(seg, at, i.next);
-    named(seg, i);
+    described(seg, i);
     spans::line_after(seg.len(), i.first, i.x, i.next)
 }
 
@@ -49,23 +50,23 @@ pub fn after(seg: &[u8], at: usize) -> usize {
     spans::line_after(seg.len(), i.first, i.x, i.next)
 }
 
-fn named(seg: &[u8], i: Instruction) {
-    let n = table::name(i.first);
-    columns::gap(n, WIDTH);
+fn described(seg: &[u8], i: Instruction) {
+    let entry = Entry::of(i.first);
+    columns::gap(entry.name(), WIDTH);
     if !i.carried {
-        other(n, i);
+        other(entry, i);
     } else if !i.whole {
         pond_say::text(b"cut off by the end of the segment");
     } else if over(i.first, i.x) {
         pond_say::text(b"not carried: more than 127 links");
     } else {
-        table::meaning(i, seg);
+        entry.meaning(seg, i);
     }
 }
 
-// A first byte that is not carried. One without a mnemonic, which shows as one character, is no instruction.
-fn other(name: usize, i: Instruction) {
-    if name < 2 {
+// A first byte that is not carried. One without a mnemonic is no instruction.
+fn other(entry: Entry, i: Instruction) {
+    if entry.is_unused() {
         pond_say::text(b"no instruction");
         return;
     }
@@ -83,8 +84,5 @@ fn other(name: usize, i: Instruction) {
 
 // Whether the first operand is a DB above 127: those of LDA, LOD, CPI and STR.
 fn over(first: u8, x: u16) -> bool {
-    match first {
-        136 | 137 | 146 | 166 => x > 127,
-        _ => false,
-    }
+    matches!(first, 136 | 137 | 146 | 166) && x > 127
 }

@@ -2,10 +2,10 @@
 // Above it: what an instruction does. Below it: the header numbers of `segment`, and how the console speaks.
 use instruction::Target;
 
-// What is asked of an entry of the table: its mnemonic or its phrase; the operands in order, and the byte after the instruction.
+// The operands of an instruction in order, its segment, and the byte after it.
 #[derive(Clone, Copy)]
-pub struct Operands {
-    pub named: bool,
+pub struct Operands<'a> {
+    pub seg: &'a [u8],
     pub x: u16,
     pub y: u16,
     pub z: u16,
@@ -17,45 +17,40 @@ pub fn signed(w: u16) {
     pond_say::signed(w);
     if w > 32767 {
         pond_say::text(b", unsigned ");
-        pond_say::number(w as u64);
+        pond_say::number(u64::from(w));
     }
 }
 
-// A number of links, words or bytes; one of them loses its s.
-fn counted(n: u16, things: &[u8]) {
-    pond_say::number(n as u64);
-    if n == 1 {
-        pond_say::text(text::front(things, 5));
-    } else {
-        pond_say::text(things);
+// A number of links, words or bytes, which get an s unless there is one.
+fn counted(n: u16, thing: &[u8]) {
+    pond_say::number(u64::from(n));
+    pond_say::text(thing);
+    if n != 1 {
+        pond_say::text(b"s");
     }
 }
 
 pub fn links(n: u16) {
-    counted(n, b" links");
+    counted(n, b" link");
     pond_say::text(b" out");
 }
 
 pub fn words(n: u16) {
-    counted(n, b" words");
+    counted(n, b" word");
 }
 
 pub fn bytes(n: u16) {
-    counted(n, b" bytes");
+    counted(n, b" byte");
 }
 
 // Where a jump leads, and whether that is out of the code. No segment reaches past byte 65534, so it is always told.
 pub fn jump(len: usize, next: usize, distance: u16) {
-    if next <= 65535 {
-        let t = instruction::leads_to(next as u16, distance);
-        match t {
-            Target::Byte(at) => {
-                lands(len, at);
-            }
-            Target::Before(_) => {
-                lands(len, 0);
-            }
-        }
+    let Ok(next) = u16::try_from(next) else {
+        return
+    };
+    match instruction::leads_to(next, distance) {
+        Target::Byte(at) => lands(len, at),
+        Target::Before(_) => lands(len, 0),
     }
 }
 
@@ -72,12 +67,11 @@ fn lands(len: usize, t: usize) {
 
 // A routine's number, and whether the segment has it, and its code.
 pub fn routine(seg: &[u8], k: u16) {
-    pond_say::number(k as u64);
+    pond_say::number(u64::from(k));
     let h = segment::head(seg);
-    let r = segment::routine_of(seg, k);
     if !spans::one_to(h.count, k) {
         pond_say::text(b" (not there)");
-    } else if r.entry == 0 {
+    } else if segment::routine_of(seg, k).entry == 0 {
         pond_say::text(b" (declared, not linked)");
     }
 }
@@ -88,7 +82,7 @@ pub fn pooled(seg: &[u8], x: u16) {
     if h.pool == 0 {
         pond_say::text(b"(no pool)");
     } else {
-        stands(h.words, h.pool as usize + x as usize);
+        stands(h.words, usize::from(h.pool) + usize::from(x));
     }
 }
 

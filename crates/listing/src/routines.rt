@@ -7,14 +7,10 @@ use segment::Routine;
 
 // For a segment that was accepted. Of other bytes it lists what their header says, and ends too.
 pub fn listing(seg: &[u8]) {
-    let h = segment::head(seg);
-    let n = h.count;
-    let mut k: u16 = 0;
-    while k < n {
-        if k > 0 {
+    for k in 1..=segment::head(seg).count {
+        if k > 1 {
             pond_say::end();
         }
-        k += 1;
         routine(seg, k);
     }
 }
@@ -27,23 +23,23 @@ fn routine(seg: &[u8], k: u16) {
     }
     let start = r.start as usize;
     let end = spans::code_end(seg, start);
-    code(seg, start, end, r.exitic as usize);
+    code(seg, start, end, usize::from(r.exitic));
 }
 
 // A routine's number, and where it stands. One that is declared and not linked has no code.
 pub fn heading(k: u16, r: Routine) {
     pond_say::text(b"routine ");
-    pond_say::number(k as u64);
+    pond_say::number(u64::from(k));
     if r.entry == 0 {
         pond_say::text(b": declared, not linked\n");
         return;
     }
     pond_say::text(b": first byte ");
-    pond_say::number(r.start as u64);
+    pond_say::number(u64::from(r.start));
     pond_say::text(b", DATASIZE ");
-    pond_say::number(r.datasize as u64);
+    pond_say::number(u64::from(r.datasize));
     pond_say::text(b", EXITIC ");
-    pond_say::number(r.exitic as u64);
+    pond_say::number(u64::from(r.exitic));
     pond_say::end();
 }
 

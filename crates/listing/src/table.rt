@@ -1,44 +1,67 @@
 // Every first byte of appendix B: its mnemonic and, where document 01 carries it, what it does.
-// Above it: the lines of a listing. Below it: the rows, and how an entry is shown.
+// Above it: the lines of a listing. Below it: the rows, and how what stands behind a mnemonic is said.
 use crate::operands::Operands;
-use crate::rows;
+use crate::{phrases, rows};
 use instruction::Instruction;
+use text::word;
 
-// Prints the mnemonic, with the number of a short form, or a dash where appendix B has none, and answers how many characters that were.
-pub fn name(first: u8) -> usize {
-    entry(
-        first,
-        b"",
-        Operands {
-            named: true,
-            x: 0,
-            y: 0,
-            z: 0,
-            next: 0,
-        },
-    )
+// What appendix B has for a first byte: the mnemonic, or a dash where it has none, with the phrase behind it; and the number of a short form,
+// which is below 100, and is also its operand.
+#[derive(Clone, Copy)]
+pub struct Entry {
+    words: &'static [u8],
+    short: Option<u8>,
 }
 
-// What a carried instruction does.
-pub fn meaning(i: Instruction, seg: &[u8]) {
-    entry(
-        i.first,
-        seg,
-        Operands {
-            named: false,
-            x: i.x,
-            y: i.y,
-            z: i.z,
-            next: i.next,
-        },
-    );
-}
-
-fn entry(first: u8, seg: &[u8], o: Operands) -> usize {
-    if first < 128 {
-        return rows::short(first, number(first), seg, o.named);
+impl Entry {
+    pub fn of(first: u8) -> Entry {
+        if first < 128 {
+            return Entry {
+                words: rows::SHORT[usize::from(first / 8)],
+                short: Some(number(first)),
+            };
+        }
+        Entry {
+            words: rows::LONG[usize::from(first - 128)],
+            short: None,
+        }
     }
-    rows::long(first, seg, o)
+
+    fn mnemonic(self) -> &'static [u8] {
+        word(self.words, 0)
+    }
+
+    // Whether a dash stands in place of the mnemonic.
+    pub fn is_unused(self) -> bool {
+        self.mnemonic() == b"-".as_slice()
+    }
+
+    // Prints the mnemonic, with the number of a short form, or a dash, and answers how many characters that were.
+    pub fn name(self) -> usize {
+        let name = self.mnemonic();
+        pond_say::text(name);
+        match self.short {
+            Some(n) if !self.is_unused() => {
+                pond_say::number(u64::from(n));
+                name.len() + if n < 10 { 1 } else { 2 }
+            }
+            _ => name.len(),
+        }
+    }
+
+    // What the carried instruction that begins with this byte does.
+    pub fn meaning(self, seg: &[u8], i: Instruction) {
+        phrases::phrase(
+            self.words,
+            Operands {
+                seg,
+                x: self.short.map_or(i.x, u16::from),
+                y: i.y,
+                z: i.z,
+                next: i.next,
+            },
+        );
+    }
 }
 
 // The number of a short form: SLDC from 0 up, SLDL, SLDO, SLLA, SSTL and SCXG from 1 up, SIND from 0 up.

@@ -7,7 +7,8 @@ mod turns;
 use plan::Regs;
 pub use turns::{facts_of, is_ready, turn};
 
-// The three kinds of session; a fault has its number and its place.
+// The three kinds of session; a fault has its number and its place. The number is kept, and no enum: a bench that anyone may hand in holds it,
+// and `session::kind_ok` decides whether it is one of the paper's.
 #[derive(Clone, Copy)]
 pub enum Kind {
     Ready,

@@ -10,24 +10,10 @@ use mathlib.Core.List.{List, [], ◌∷◌}
 use lib.ListN.{length, get_or, drop, drop_of_length-le}
 use lib.Seq.{drop-cons}
 use borrow.Author.Tests.{lt-ltb, le-ltb}
-use Rattle.numbers.specs.Numbers.{digit_byte, all_digits, value_from, fitted, number_of}
-use Rattle.numbers.specs.declared.Number.{Number}
-use Rattle.numbers.specs.declared.Number.TheVariants.{Value, Beyond, Not}
-
--- ---- digits, of what is left at index i
-
-module _ (s : List ℕ) (i : ℕ) where
-  pub digits_end : length s ≤ i → all_digits s ≡ all_digits (drop i s) → true ≡ all_digits s
-  unfolding all_digits
-  digits_end h e = sym (e ∙ rw (drop_of_length-le s h))
-
-  pub digits_stop : i < length s → digit_byte (get_or s i 0) ≡ false → all_digits s ≡ all_digits (drop i s) → false ≡ all_digits s
-  unfolding all_digits
-  digits_stop h f e = sym (e ∙ rw (drop-cons s i 0 h, f))
-
-  pub digits_go : i < length s → digit_byte (get_or s i 0) ≡ true → all_digits s ≡ all_digits (drop i s) → all_digits s ≡ all_digits (drop (i + 1) s)
-  unfolding all_digits
-  digits_go h t e = e ∙ rw (drop-cons s i 0 h, t, add-one i)
+use Rattle.numbers.specs.Numbers.{all_digits, value_from, fitted, number_of}
+use Rattle.std.proofs.Common.{Result, Ok, Err}
+use Rattle.numbers.specs.declared.NoNumber.{NoNumber}
+use Rattle.numbers.specs.declared.NoNumber.TheVariants.{Beyond, Not}
 
 -- ---- the value
 
@@ -42,7 +28,7 @@ pub fits : (v d most : ℕ) → d ≤ most → v ≤ (most - d) / 10 → 10 * v 
 fits v d most h l = omega (arith, div-mul-le_self (most - d) 10)
 
 module _ (s : List ℕ) (i n v : ℕ) (e : n ≡ value_from v (drop i s)) where
-  pub value_ends : length s ≤ i → v < 2 ^ 64 → Value v ≡ fitted n
+  pub value_ends : length s ≤ i → v < 2 ^ 64 → Ok v ≡ fitted n
   unfolding value_from fitted
   value_ends h l = rw (e, drop_of_length-le s h, lt-ltb v (2 ^ 64) l)
 
@@ -50,7 +36,7 @@ module _ (s : List ℕ) (i n v : ℕ) (e : n ≡ value_from v (drop i s)) where
   unfolding value_from
   value_goes d h q = e ∙ rw (drop-cons s i 0 h, q, add-one i)
 
-  pub value_stops : (d : ℕ) → i < length s → d ≡ get_or s i 0 - 48 → (18446744073709551615 - d) / 10 < v → Beyond ≡ fitted n
+  pub value_stops : (d : ℕ) → i < length s → d ≡ get_or s i 0 - 48 → (18446744073709551615 - d) / 10 < v → Err Beyond ≡ fitted n
   unfolding fitted
   value_stops d h q l =
       let g : 10 * v + d ≤ n = rw (value_goes d h q) (grows (10 * v + d) (drop (i + 1) s)) in
@@ -58,17 +44,17 @@ module _ (s : List ℕ) (i n v : ℕ) (e : n ≡ value_from v (drop i s)) where
 
 -- ---- the number
 
-pub number_none : (w : List ℕ) → length w ≡ 0 → Not ≡ number_of w
+pub number_none : (w : List ℕ) → length w ≡ 0 → Err Not ≡ number_of w
 unfolding number_of
 number_none [] h = refl
 number_none (b ∷ l) h = let z : ⊥ = omega arith in absurd z
 
-pub number_not : (w : List ℕ) → false ≡ all_digits w → Not ≡ number_of w
+pub number_not : (w : List ℕ) → false ≡ all_digits w → Err Not ≡ number_of w
 unfolding number_of
 number_not [] h = refl
 number_not (b ∷ l) h = rw (sym h)
 
-pub number_is : (w : List ℕ) (r : Number) → (length w ≡ 0 → ⊥) → true ≡ all_digits w → r ≡ fitted (value_from 0 w) → r ≡ number_of w
+pub number_is : (w : List ℕ) (r : Result ℕ NoNumber) → (length w ≡ 0 → ⊥) → true ≡ all_digits w → r ≡ fitted (value_from 0 w) → r ≡ number_of w
 unfolding number_of
 number_is [] r n h e = absurd (n refl)
 number_is (b ∷ l) r n h e = e ∙ rw (sym h)

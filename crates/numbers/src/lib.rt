@@ -5,75 +5,52 @@
 ghost use Rattle.std.specs.Prelude.{◌≡◌, ◌-◌};
 ghost use Rattle.numbers.specs.Numbers.{digit_byte, all_digits, value_from, fitted, number_of};
 
-// What a word says as a number.
-#[derive(Clone, Copy)]
-pub enum Number {
-    Value(u64),
+// Why a word is no number of 64 bits: it is 2^64 or more, or it is no word of digits.
+#[derive(Clone, Copy, Debug, PartialEq, Eq)]
+pub enum NoNumber {
     Beyond,
     Not,
 }
 
-// The largest number of 64 bits.
-const MOST: u64 = 18446744073709551615;
-
 // The word as a decimal number: `Not` where it has no digits or anything but digits, `Beyond` where it is 2^64 or more.
-pub fn number_of(word: &[u8]) -> Number
+pub fn number_of(word: &[u8]) -> Result<u64, NoNumber>
     ensures { result ≡ number_of word.now }
 {
-    if word.len() == 0 {
-        return Number::Not;
+    if word.is_empty() {
+        return Err(NoNumber::Not);
     }
     if !digits(word) {
-        return Number::Not;
+        return Err(NoNumber::Not);
     }
     value(word)
 }
 
 // Whether every byte is a digit.
+#[tactic(auto, unfolding(crate::specs::Numbers::all_digits))]
 fn digits(s: &[u8]) -> bool
     ensures { result ≡ all_digits s.now }
 {
-    let mut i = 0;
-    while i < s.len() {
-        if !digit(s[i]) {
-            return false;
-        }
-        i += 1;
-    }
-    true
+    s.iter().all(|b| digit(*b))
 }
 
+#[tactic(auto, unfolding(crate::specs::Numbers::digit_byte))]
 fn digit(b: u8) -> bool
     ensures { result ≡ digit_byte b }
 {
-    if b < 48 {
-        return false;
-    }
-    b <= 57
+    b'0' <= b && b <= b'9'
 }
 
 // The value of digits, while there is room for it. A byte below the digits is worth 0 here, so that nothing is asked of a caller.
-fn value(s: &[u8]) -> Number
+fn value(s: &[u8]) -> Result<u64, NoNumber>
     ensures { result ≡ fitted (value_from 0 s.now) }
 {
-    let mut v: u64 = 0;
-    let mut i = 0;
-    while i < s.len() {
-        let d = worth(s[i]);
-        if v > (MOST - d) / 10 {
-            return Number::Beyond;
+    let mut v = 0u64;
+    for b in s {
+        let d = u64::from(b.saturating_sub(b'0'));
+        if v > (u64::MAX - d) / 10 {
+            return Err(NoNumber::Beyond);
         }
         v = 10 * v + d;
-        i += 1;
     }
-    Number::Value(v)
-}
-
-fn worth(b: u8) -> u64
-    ensures { result ≡ b - 48 }
-{
-    if b < 48 {
-        return 0;
-    }
-    (b - 48) as u64
+    Ok(v)
 }

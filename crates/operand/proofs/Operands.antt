@@ -5,6 +5,7 @@ use native.Mathlib.Omega.{arith}
 use mathlib.Core.Path.{◌≡◌, refl, sym}
 use mathlib.Core.List.{List}
 use mathlib.Core.Bool.{Bool, true, false, cond}
+use Rattle.std.specs.Prelude.{Ok, Err}
 use borrow.Author.Tests.{ltb-true, ltb-false, lt-ltb}
 use lib.ListN.{length}
 use lib.Dec.{ltb}
@@ -12,7 +13,6 @@ use lib.IntN.{pos, sub_ℕ}
 use Rattle.basis.proofs.Bools.{cond_holds}
 use Rattle.basis.specs.Integer.{modulo, integer_of, word_of}
 use Rattle.operand.specs.Bytes.{byte_at, join}
-use Rattle.operand.specs.declared.Operand.TheVariants.{Got, Out}
 use Rattle.operand.specs.Operand.{Form, UB, SB, DB, B, W, Fetched, got, out, if_there, signed, fetched, digit, form_at}
 use Rattle.operand.specs.Reading.{Lies, Reads, RunsOut, Numbered}
 
@@ -56,8 +56,8 @@ module _ (f : Form) (s : List ℕ) (at : ℕ) where
   out_lies p h l = (rw h at (reads f s at)).3 l
 
 pub runs_out : RunsOut
-runs_out f s at (Got value next) e h l = let z : ⊥ = omega (arith, h) in absurd z
-runs_out f s at (Out place) e h l = out_lies f s at place (sym e) l
+runs_out f s at (Ok o) e h l = let z : ⊥ = omega (arith, h) in absurd z
+runs_out f s at (Err m) e h l = out_lies f s at m.place (sym e) l
 
 -- ---- the numbers of the forms
 

@@ -1,9 +1,9 @@
 -- Operands UB, SB, DB, B and W "as in 000", read at a byte offset of a segment.
 -- Below: bytes. Above: the reader, the table of first bytes, and the decoding of `pmachine`. Assumes nothing.
-use Rattle.std.specs.Prelude.{ℕ, ◌+◌, ◌-◌, List, cond, length, ltb, eqb}
+use Rattle.std.specs.Prelude.{ℕ, ◌+◌, ◌-◌, List, Result, Ok, Err, cond, length, ltb, eqb}
 use Rattle.operand.specs.Bytes.{byte_at, join}
 use Rattle.operand.specs.declared.Operand.{Operand}
-use Rattle.operand.specs.declared.Operand.TheVariants.{Got, Out}
+use Rattle.operand.specs.declared.Missing.{Missing}
 
 pub data Form : Type 0 where
   UB : Form
@@ -41,23 +41,23 @@ fetched B s at =
 fetched W s at = if_there s at (if_there s (at + 1) (got (join (byte_at s at) (byte_at s (at + 1))) (at + 2)))
 
 -- what the code's answer says
-abbrev pub fetched_of : Operand → Fetched
-fetched_of (Got value next) = got value next
-fetched_of (Out place) = out place
+abbrev pub fetched_of : Result Operand Missing → Fetched
+fetched_of (Ok o) = got o.value o.next
+fetched_of (Err m) = out m.place
 
 -- the paper's number, place and value of each case of it: 1 is "an instruction byte outside 22..2W-1", and its place the first byte that
 -- could not be fetched; an operand that is there has no fault, one that is not has no value
-abbrev pub operand_fault : Operand → ℕ
-operand_fault (Got value next) = 0
-operand_fault (Out place) = 1
+abbrev pub operand_fault : Result Operand Missing → ℕ
+operand_fault (Ok o) = 0
+operand_fault (Err m) = 1
 
-abbrev pub operand_place : Operand → ℕ
-operand_place (Got value next) = 0
-operand_place (Out place) = place
+abbrev pub operand_place : Result Operand Missing → ℕ
+operand_place (Ok o) = 0
+operand_place (Err m) = m.place
 
-abbrev pub operand_value : Operand → ℕ
-operand_value (Got value next) = value
-operand_value (Out place) = 0
+abbrev pub operand_value : Result Operand Missing → ℕ
+operand_value (Ok o) = o.value
+operand_value (Err m) = 0
 
 -- "has its operand form .. in one table": the number of a form in the table of first bytes, and as the reader is asked for it; 0 is left
 -- for no operand

@@ -1,7 +1,8 @@
 -- Where an operand lies, where its bytes ran out, and that forms and their numbers answer each other: what holds of every form alike.
 -- Below: operands. Above: the machine, whose counter moves to the offset after the operands, and the readers by number. Assumes nothing.
-use Rattle.std.specs.Prelude.{ℕ, ◌+◌, ◌≤◌, ◌<◌, ◌≡◌, List, length}
+use Rattle.std.specs.Prelude.{ℕ, ◌+◌, ◌≤◌, ◌<◌, ◌≡◌, List, Result, length}
 use Rattle.operand.specs.declared.Operand.{Operand}
+use Rattle.operand.specs.declared.Missing.{Missing}
 use Rattle.operand.specs.Operand.{Form, Fetched, got, out, fetched, fetched_of, operand_fault, operand_place, digit, form_at}
 
 -- one that is there starts at `at`, has one byte or two and ends inside the segment; of one that is not, the first byte that
@@ -17,7 +18,7 @@ Reads = (f : Form) (s : List ℕ) (at : ℕ) → Lies s at (fetched f s at)
 -- of an operand that starts inside the segment or at its end and is not all there, the place is the segment's end
 abbrev pub RunsOut : Type 0
 RunsOut =
-    (f : Form) (s : List ℕ) (at : ℕ) (r : Operand) → fetched_of r ≡ fetched f s at → operand_fault r ≡ 1 → at ≤ length s
+    (f : Form) (s : List ℕ) (at : ℕ) (r : Result Operand Missing) → fetched_of r ≡ fetched f s at → operand_fault r ≡ 1 → at ≤ length s
     → operand_place r ≡ length s
 
 -- each form has a number of its own, 1 to 5, and each of those is a form's

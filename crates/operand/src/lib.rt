@@ -8,9 +8,15 @@ mod parts;
 pub use fetches::{big, signed, unsigned, wide};
 pub use parts::{byte_at, word_at, word_in};
 
-// An operand: its value and the offset after it, or the offset of the first byte that is not there.
+// An operand that is there: its value and the offset after it.
 #[derive(Clone, Copy)]
-pub enum Operand {
-    Got { value: u16, next: usize },
-    Out { place: usize },
+pub struct Operand {
+    pub value: u16,
+    pub next: usize,
+}
+
+// An operand that is not all there: the offset of the first byte that is missing.
+#[derive(Clone, Copy)]
+pub struct Missing {
+    pub place: usize,
 }

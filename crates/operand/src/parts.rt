@@ -1,5 +1,7 @@
 // Bytes and words. Every read but `word_in` is total: past the end stand zeros, as in the definitions.
 // Above: operands, a segment's header and the machine.
+#![tactic(auto, unfolding(crate::specs::Bytes::word_by))]
+
 ghost use Rattle.std.specs.Prelude.{◌≡◌, ◌+◌, ◌*◌, ◌<◌, length};
 ghost use Rattle.operand.specs.Bytes.{byte_at, join, word_by};
 

@@ -2,6 +2,7 @@
 -- Above: the flat match of `judge`; below: Meanings, and the opcode table of `pmachine`.
 use Prim.Native.Nat.{ℕ, ◌+◌, ◌-◌, ◌<◌, ◌≤◌}
 use native.Mathlib.Omega.{arith}
+use Rattle.std.specs.Prelude.{Result}
 use mathlib.Core.Path.{◌≡◌, refl, ap, sym, ◌∙◌}
 use mathlib.Core.List.{List, [], ◌∷◌}
 use mathlib.Core.Bool.{Bool, true, false, ◌||◌, not, cond, false≢true}
@@ -21,7 +22,6 @@ use Rattle.plan.specs.declared.Regs.{Regs}
 use Rattle.plan.specs.declared.Facts.{Facts}
 use Rattle.plan.specs.declared.Planned.TheVariants.{Move, Bad}
 use Rattle.plan.specs.declared.Entry.{Entry}
-use Rattle.plan.specs.declared.Found.{Found}
 use Rattle.plan.specs.declared.Case.{Case}
 use Rattle.plan.specs.Answer.{regs_of, outcome_of}
 use Rattle.plan.specs.Mirror.{lack, pushed, swapped, one, two, gives, divided, checked, loaded, addressed, stored, read_at, stored_at, pooled}
@@ -189,7 +189,7 @@ module _ {s shared w : List ℕ} {q : Regs} {f : Facts} (ready : Ready s f share
     pub pol : (b : ℕ) → P ≡ pooled (words s) f.pool f.floor r n b → Is (pool_offset b) 0 1 P
     pol b e = e ∙ (rw (floors, ready.told.pools) (sym (is_pool s shared w r h small n b)))
 
-    pub blk : (mode b k : ℕ) {e : Found} → P ≡ blocked s (sex_by f.sex mode) r k n e → e ≡ words_at f.pool f.reals f.floor r.sp b k
+    pub blk : (mode b k : ℕ) {e : Result ℕ ℕ} → P ≡ blocked s (sex_by f.sex mode) r k n e → e ≡ words_at f.pool f.reals f.floor r.sp b k
         → Is (constants mode b k) 0 0 P
     blk mode b k a e =
         a ∙ (rw (e, floors, ready.told.pools, ready.told.reals, ready.told.sexes) (sym (is_constants s shared w r h n mode b k)))
@@ -235,7 +235,7 @@ module _ {s shared w : List ℕ} {q : Regs} {f : Facts} (ready : Ready s f share
       pub sto : P ≡ lack 1 w r (stored w r rec x n) → Is (store p x) 1 0 P
       sto = taken (store p x) 1 0 (is_store s shared w r h small n p rec x l)
 
-      pub cal : {e : Entry} → P ≡ called r x rec n e → e ≡ entered s r.sp x → Is (call p x) 0 0 P
+      pub cal : {e : Result Entry ℕ} → P ≡ called r x rec n e → e ≡ entered s r.sp x → Is (call p x) 0 0 P
       cal a b = a ∙ (rw b (sym (is_call s shared w r h small n p rec x l)))
 
     -- a bad link

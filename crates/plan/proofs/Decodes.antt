@@ -1,6 +1,7 @@
 -- From the operands that are fetched to the instruction that is judged, for the rows of no, one, two and three operands; and what a link that
 -- was followed tells. Above: the flat match of `judge`; below: Decoding and Step of `pmachine`, and the operands' laws of `operand`.
 use Prim.Native.Nat.{ℕ, zero, suc, ◌+◌, ◌<◌, ◌≤◌}
+use Rattle.std.specs.Prelude.{Option, Some, None, Result, Ok, Err}
 use mathlib.Core.Path.{◌≡◌, refl, sym, ◌∙◌, ap, subst}
 use mathlib.Core.List.{List, [], ◌∷◌}
 use mathlib.Core.Bool.{true, false, false≢true}
@@ -9,7 +10,7 @@ use lib.ListN.{length, get_or}
 use borrow.Author.Tests.{le-leb, lt-leb, leb-true}
 use Rattle.basis.proofs.Bools.{cond_holds, and_snd}
 use Rattle.operand.specs.declared.Operand.{Operand}
-use Rattle.operand.specs.declared.Operand.TheVariants.{Got, Out}
+use Rattle.operand.specs.declared.Missing.{Missing}
 use Rattle.operand.specs.Operand.{Form, UB, DB, got, out, fetched, fetched_of}
 use Rattle.operand.proofs.Operands.{got_lies}
 use Rattle.pmachine.specs.State.{Registers}
@@ -17,8 +18,6 @@ use Rattle.pmachine.specs.Meaning.{globals, up, Meaning}
 use Rattle.pmachine.specs.Opcode.{Row, carried, uncarried, is_carried}
 use Rattle.pmachine.specs.Decoding.{joined, and_then, operands, lawful, all_lawful, decoded_with, row_decoded}
 use Rattle.pmachine.specs.Step.{fault, Link as Linked, reaches, broken, pointer, follow, reached, outcome, judged_by}
-use Rattle.plan.specs.declared.Link.{Link}
-use Rattle.plan.specs.declared.Link.TheVariants.{Record, Broken}
 use Rattle.plan.specs.Answer.{link_of}
 use Rattle.plan.proofs.Meanings.{instr}
 
@@ -37,15 +36,22 @@ fetched-DB s at = refl
 pub next_high : (f : Form) (s : List ℕ) (at a n : ℕ) → fetched f s at ≡ got a n → n ≤ length s
 next_high f s at a n e = (got_lies f s at a n e).2
 
--- what the code's answer tells of an operand, in each of its two cases
-module _ (o : Operand) (f : Form) (s : List ℕ) (at : ℕ) (e : fetched_of o ≡ fetched f s at) where
-  pub came : (a n : ℕ) → o ≡ Got a n → fetched f s at ≡ got a n
+-- the code's answer, in each of its two cases
+abbrev pub got_as : ℕ → ℕ → Result Operand Missing
+got_as a n = Ok (record { value = a; next = n })
+
+abbrev pub out_as : ℕ → Result Operand Missing
+out_as p = Err (record { place = p })
+
+-- what it tells of an operand
+module _ (o : Result Operand Missing) (f : Form) (s : List ℕ) (at : ℕ) (e : fetched_of o ≡ fetched f s at) where
+  pub came : (a n : ℕ) → o ≡ got_as a n → fetched f s at ≡ got a n
   came a n p = sym e ∙ ap fetched_of p
 
-  pub ran_out_lem : (p : ℕ) → o ≡ Out p → fetched f s at ≡ out p
+  pub ran_out_lem : (p : ℕ) → o ≡ out_as p → fetched f s at ≡ out p
   ran_out_lem p q = sym e ∙ ap fetched_of q
 
-  pub came_high : (a n : ℕ) → o ≡ Got a n → n ≤ length s
+  pub came_high : (a n : ℕ) → o ≡ got_as a n → n ≤ length s
   came_high a n p = next_high f s at a n (came a n p)
 
 module _ (s shared w : List ℕ) (r : Registers) (t g : ℕ) (does : List ℕ → Meaning) (at : ℕ) where
@@ -122,14 +128,14 @@ pub at_globals : (w : List ℕ) (m : ℕ) → reached w m globals ≡ reaches 1
 unfolding reached
 at_globals w m = refl
 
-module _ (w : List ℕ) (m d : ℕ) (x : Link) (e : link_of x ≡ follow w m d) where
-  pub walked : (rec : ℕ) → x ≡ Record rec → reached w m (up d) ≡ reaches rec
+module _ (w : List ℕ) (m d : ℕ) (x : Option ℕ) (e : link_of x ≡ follow w m d) where
+  pub walked : (rec : ℕ) → x ≡ Some rec → reached w m (up d) ≡ reaches rec
   unfolding reached
   walked rec p = sym e ∙ ap link_of p
 
-  pub strayed : x ≡ Broken → reached w m (up d) ≡ broken
+  pub strayed : x ≡ None → reached w m (up d) ≡ broken
   unfolding reached
   strayed p = sym e ∙ ap link_of p
 
-  pub walked_high : (rec : ℕ) → x ≡ Record rec → m + 5 ≤ length w → rec + 5 ≤ length w
+  pub walked_high : (rec : ℕ) → x ≡ Some rec → m + 5 ≤ length w → rec + 5 ≤ length w
   walked_high rec p = follow_high w m d rec (sym e ∙ ap link_of p)

@@ -1,5 +1,6 @@
 -- A mark in order, where a routine is entered, and the walk of links, as the code reads them.
 -- Above: the proofs of enter, in_order and walk in `plan_calls`; below: Step of `pmachine`, and what Facts tell.
+use Rattle.std.specs.Prelude.{Result, Ok, Err}
 use mathlib.Core.Path.{◌≡◌, refl, ap, sym, ◌∙◌}
 use mathlib.Core.List.{List}
 use mathlib.Core.Logic.{⊎_elim}
@@ -20,7 +21,6 @@ use Rattle.pmachine.specs.Sound.{Loaded}
 use Rattle.pmachine.proofs.Links.{follow_more}
 use Rattle.plan.specs.declared.Facts.{Facts}
 use Rattle.plan.specs.declared.Entry.{Entry}
-use Rattle.plan.specs.declared.Entry.TheVariants.{To, Not}
 use Rattle.plan.specs.Mirror.{entry_fault, entered, in_order}
 use Rattle.plan.specs.Told.{sex_of, Told}
 
@@ -70,10 +70,10 @@ disordered len size n low mark sp not-all =
     (inside_true low (size + 1) sp f).0)
 
 -- what is entered, unless there is a fault
-abbrev by_fault : ℕ → Entry → Entry
-by_fault n to = cond (eqb n 0) to (Not n)
+abbrev pub by_fault : ℕ → Entry → Result Entry ℕ
+by_fault n to = cond (eqb n 0) (Ok to) (Err n)
 
-room : (full : Bool) (to : Entry) → cond full (Not 4) to ≡ by_fault (cond full 4 0) to
+room : (full : Bool) (to : Entry) → ◌≡◌ {A = Result Entry ℕ} (cond full (Err 4) (Ok to)) (by_fault (cond full 4 0) to)
 room true to = refl
 room false to = refl
 
@@ -116,16 +116,16 @@ module _ (s : List ℕ) (f : Facts) (t : Told s f) where
   unfolding datasize
   size_told k e z a some b = b ∙ (word_told e ∙ rw some (ap (word s) a))
 
-  -- a routine that the segment has, with the entry and the size that were read, and the number of the fault
+  -- a routine that the segment has, with the entry and the size that were read, and the fault
   pub entered_told : (sp k e z : ℕ) → 1 ≤ k → k ≤ f.count → e ≡ word_by (eqb f.sex 0) s (f.dict + k) → z ≡ word_by (eqb f.sex 0) s e
-      → entered s sp k ≡ by_fault (entry_fault e sp (f.floor + 5 + z)) (To (sp - 5 - z) (2 * (e + 1)))
+      → entered s sp k ≡ by_fault (entry_fault e sp (f.floor + 5 + z)) (record { sp = sp - 5 - z; counter = 2 * (e + 1) })
   unfolding entered start entry_fault
   entered_told sp k e z low high a b =
       rw (le-ltb k 1 low, le-ltb (count s) k (omega (arith, high, t.counts))) (go (eqb e 0) refl)
     where
       go : (zero : Bool) → eqb e 0 ≡ zero
-          → cond (not (linked s k)) (Not 8) (cond (ltb sp (floor s + 5 + datasize s k)) (Not 4) (To (sp - (5 + datasize s k)) (start s k)))
-          ≡ by_fault (cond zero 8 (cond (ltb sp (f.floor + 5 + z)) 4 0)) (To (sp - 5 - z) (2 * (e + 1)))
+          → ◌≡◌ {A = Result Entry ℕ} (cond (not (linked s k)) (Err 8) (cond (ltb sp (floor s + 5 + datasize s k)) (Err 4) (Ok (record { sp = sp - (5 + datasize s k); counter = start s k }))))
+          (by_fault (cond zero 8 (cond (ltb sp (f.floor + 5 + z)) 4 0)) (record { sp = sp - 5 - z; counter = 2 * (e + 1) }))
       go true h = rw (linked_none s k (sym (entry_told k e a) ∙ eqb-true e 0 h))
       go false h =
           let i = entry_told k e a in

@@ -20,7 +20,7 @@ use Rattle.pmachine.specs.Decoding.{Instruction}
 use Rattle.pmachine.specs.Step.{fault, goes, floor, reached, reaches, broken, readable, word_at, target, new_record, mark_at, resumes, moved, ground_for, first_fault, asks, effect, outcome}
 use Rattle.pmachine.specs.Sound.{Ranged}
 use Rattle.pmachine.proofs.Judged.{resumed}
-use Rattle.plan.specs.declared.Read.TheVariants.{Value, Missing}
+use Rattle.std.specs.Prelude.{Some, None}
 use Rattle.plan.specs.Mirror.{pushed, one, two, gives, divided, checked, loaded, addressed, stored, read_at, stored_at, pooled, in_code, jumped}
 use Rattle.plan.specs.Mirror.{branched, entered, called, in_order, returned}
 use Rattle.plan.proofs.Links.{below_suc}
@@ -69,12 +69,12 @@ jumped_is len r sp n d = rw (landed len (target n d)) (go (inside 22 len (target
 
 -- what is read at an address, if it may be read
 module _ (w shared : List ℕ) (base i : ℕ) (small : length w ≤ 32768) (few : length shared ≤ 32768) where
-  read_is : read_at w shared base i ≡ cond (readable w shared base i) (Value (word_at w shared (base + i))) Missing
+  read_is : read_at w shared base i ≡ cond (readable w shared base i) (Some (word_at w shared (base + i))) None
   unfolding read_at word_at inside
   read_is = go _ _ _ _ _ refl refl refl refl refl
     where
       go : (v x y z u : Bool) → ltb base 1 ≡ v → ltb (base + i) (length w) ≡ x → ltb (base + i) 32768 ≡ y → leb (length shared) (base + i - 32768) ≡ z
-          → leb (base + i) 65535 ≡ u → read_at w shared base i ≡ cond (readable w shared base i) (Value (word_at w shared (base + i))) Missing
+          → leb (base + i) 65535 ≡ u → read_at w shared base i ≡ cond (readable w shared base i) (Some (word_at w shared (base + i))) None
       go true x y z u d e f g o =
           let a = ltb-true base 1 d in
           rw (d, eq-eqb base 0 (omega arith))

@@ -1,21 +1,20 @@
 -- The code's answers in the definition's words: registers, links, and the outcome that a plan tells.
 -- Above: contracts of `plan` and the four crates on it, `judge`, `machine` and `session`; below: Step of `pmachine`. What the helpers answer is in Mirror.
-use Rattle.std.specs.Prelude.{ℕ, ◌+◌, ◌-◌, List, [], ◌∷◌, eqb}
+use Rattle.std.specs.Prelude.{ℕ, ◌+◌, ◌-◌, List, [], ◌∷◌, Option, Some, None, eqb}
 use Rattle.pmachine.specs.State.{Registers}
 use Rattle.pmachine.specs.Pool.{words_from, on_top}
 use Rattle.pmachine.specs.Step.{Outcome, fault, finish, goes, moved, lowered, Link as Linked, reaches, broken}
 use Rattle.plan.specs.declared.Regs.{Regs}
 use Rattle.plan.specs.declared.Planned.{Planned}
 use Rattle.plan.specs.declared.Planned.TheVariants.{Move, Put, Push, One, Two, Swap, Call, Back, Block, Bad, Finish}
-use Rattle.plan.specs.declared.Link.{Link}
-use Rattle.plan.specs.declared.Link.TheVariants.{Record, Broken}
 
 abbrev pub regs_of : Regs → Registers
 regs_of r = record { sp = r.sp; m = r.m; counter = r.counter; routine = r.routine; lowest = r.lowest }
 
-abbrev pub link_of : Link → Linked
-link_of (Record m) = reaches m
-link_of Broken = broken
+-- a record reached by static links, or a bad link
+abbrev pub link_of : Option ℕ → Linked
+link_of (Some m) = reaches m
+link_of None = broken
 
 -- The outcome that an answer tells, of a step from r on the bytes s. Those that can bring SP lower say `lowered`; the others tell a step that does not.
 unfoldable pub outcome_of : List ℕ → Regs → Planned → Outcome

@@ -1,7 +1,7 @@
 -- MIRROR OF THE CODE, for the proofs; nobody has to believe it. What each helper answers: the definition's outcome of a meaning, test by test as
 -- the code asks. proofs/Meanings shows that these are the definition's outcomes. Above: contracts of `plan` and
 -- the four crates on it; below: Step of `pmachine`.
-use Rattle.std.specs.Prelude.{ℕ, ◌+◌, ◌-◌, ◌%◌, List, [], ◌∷◌, Bool, ◌&&◌, not, cond, length, get_or, ltb, leb, eqb}
+use Rattle.std.specs.Prelude.{ℕ, ◌+◌, ◌-◌, ◌%◌, List, [], ◌∷◌, Option, Some, None, Result, Ok, Err, Bool, ◌&&◌, not, cond, length, get_or, ltb, leb, eqb}
 use Rattle.basis.specs.Bools.{inside}
 use Rattle.basis.specs.Integer.{add_of, sub_of, mul_of, neg_of, inc_of, dec_of, mag_of, quot_of, rem_of, eq_of, ne_of, leq_of, geq_of, leu_of, geu_of, and_of, or_of, not_of}
 use Rattle.segment.specs.Head.{word, pool, real_pool, count, linked, datasize, start}
@@ -14,12 +14,7 @@ use Rattle.plan.specs.declared.Binary.{Binary}
 use Rattle.plan.specs.declared.Binary.TheVariants.{Mpi, Lor, Land, Adi, Sbi, Equi, Neqi, Leqi, Geqi, Leusw, Geusw}
 use Rattle.plan.specs.declared.Division.{Division}
 use Rattle.plan.specs.declared.Division.TheVariants.{Dvi, Modi}
-use Rattle.plan.specs.declared.Read.{Read}
-use Rattle.plan.specs.declared.Read.TheVariants.{Value, Missing}
 use Rattle.plan.specs.declared.Entry.{Entry}
-use Rattle.plan.specs.declared.Entry.TheVariants.{To, Not}
-use Rattle.plan.specs.declared.Found.{Found}
-use Rattle.plan.specs.declared.Found.TheVariants.{At, Fault}
 use Rattle.plan.specs.declared.Case.{Case}
 use Rattle.plan.specs.declared.Case.TheVariants.{By, On, Unread}
 
@@ -66,9 +61,9 @@ abbrev pub division_of : Division → ℕ → ℕ → ℕ
 division_of Dvi = quot_of
 division_of Modi = rem_of
 
-unfoldable pub gives : Registers → ℕ → Read → Outcome
-gives r next (Value v) = one r next v
-gives r next Missing = fault 6
+unfoldable pub gives : Registers → ℕ → Option ℕ → Outcome
+gives r next (Some v) = one r next v
+gives r next None = fault 6
 
 unfoldable pub divided : (ℕ → ℕ → ℕ) → Registers → ℕ → ℕ → ℕ → Outcome
 divided f r next x y = cond (eqb y 0) (fault 5) (two r next (f x y))
@@ -92,12 +87,12 @@ unfoldable pub stored : List ℕ → Registers → ℕ → ℕ → ℕ → Outco
 stored w r rec a next =
     cond (leb (length w) (rec + 4 + a)) (fault 6) (goes (moved r (r.sp + 1) next) (rec + 4 + a) (get_or w r.sp 0 ∷ []))
 
-unfoldable pub read_at : List ℕ → List ℕ → ℕ → ℕ → Read
+unfoldable pub read_at : List ℕ → List ℕ → ℕ → ℕ → Option ℕ
 read_at w shared base i =
-    cond (ltb base 1) Missing
-    (cond (ltb (base + i) (length w)) (Value (get_or w (base + i) 0))
-    (cond (ltb (base + i) 32768) Missing
-    (cond (leb (length shared) (base + i - 32768)) Missing (Value (get_or shared (base + i - 32768) 0)))))
+    cond (ltb base 1) None
+    (cond (ltb (base + i) (length w)) (Some (get_or w (base + i) 0))
+    (cond (ltb (base + i) 32768) None
+    (cond (leb (length shared) (base + i - 32768)) None (Some (get_or shared (base + i - 32768) 0)))))
 
 unfoldable pub stored_at : List ℕ → Registers → ℕ → Outcome
 stored_at w r next =
@@ -111,18 +106,18 @@ pooled words pool low r next a =
 
 -- ---- words of the pool
 
-unfoldable pub words_at : ℕ → ℕ → ℕ → ℕ → ℕ → ℕ → Found
+unfoldable pub words_at : ℕ → ℕ → ℕ → ℕ → ℕ → ℕ → Result ℕ ℕ
 words_at pool reals low sp b n =
-    cond (eqb n 0) (cond (eqb pool 0) (Fault 6) (At 0))
-    (cond (ltb reals (pool + b + n)) (Fault 6)
-    (cond (ltb sp (low + n)) (Fault 4) (At (pool + b))))
+    cond (eqb n 0) (cond (eqb pool 0) (Err 6) (Ok 0))
+    (cond (ltb reals (pool + b + n)) (Err 6)
+    (cond (ltb sp (low + n)) (Err 4) (Ok (pool + b))))
 
 unfoldable pub sex_by : ℕ → ℕ → ℕ
 sex_by sex mode = cond (eqb mode 2) sex 0
 
-unfoldable pub blocked : List ℕ → ℕ → Registers → ℕ → ℕ → Found → Outcome
-blocked s sex r n next (At first) = goes (lowered (moved r (r.sp - n) next)) (r.sp - n) (on_top (words_from (eqb sex 0) s first n))
-blocked s sex r n next (Fault k) = fault k
+unfoldable pub blocked : List ℕ → ℕ → Registers → ℕ → ℕ → Result ℕ ℕ → Outcome
+blocked s sex r n next (Ok first) = goes (lowered (moved r (r.sp - n) next)) (r.sp - n) (on_top (words_from (eqb sex 0) s first n))
+blocked s sex r n next (Err f) = fault f
 
 -- ---- jumps, calls and returns
 
@@ -155,17 +150,17 @@ chosen len r next Unread = fault 6
 unfoldable pub entry_fault : ℕ → ℕ → ℕ → ℕ
 entry_fault e sp needed = cond (eqb e 0) 8 (cond (ltb sp needed) 4 0)
 
-unfoldable pub entered : List ℕ → ℕ → ℕ → Entry
+unfoldable pub entered : List ℕ → ℕ → ℕ → Result Entry ℕ
 entered s sp k =
-    cond (ltb k 1) (Not 8)
-    (cond (ltb (count s) k) (Not 8)
-    (cond (not (linked s k)) (Not 8)
-    (cond (ltb sp (floor s + 5 + datasize s k)) (Not 4) (To (new_record s sp k) (start s k)))))
+    cond (ltb k 1) (Err 8)
+    (cond (ltb (count s) k) (Err 8)
+    (cond (not (linked s k)) (Err 8)
+    (cond (ltb sp (floor s + 5 + datasize s k)) (Err 4) (Ok (record { sp = new_record s sp k; counter = start s k })))))
 
-unfoldable pub called : Registers → ℕ → ℕ → ℕ → Entry → Outcome
-called r k parent next (To sp counter) =
-    goes (lowered (record { sp = sp; m = sp; counter = counter; routine = k; lowest = r.lowest })) sp (parent ∷ r.m ∷ next ∷ 1 ∷ r.routine ∷ [])
-called r k parent next (Not n) = fault n
+unfoldable pub called : Registers → ℕ → ℕ → ℕ → Result Entry ℕ → Outcome
+called r k parent next (Ok e) =
+    goes (lowered (record { sp = e.sp; m = e.sp; counter = e.counter; routine = k; lowest = r.lowest })) e.sp (parent ∷ r.m ∷ next ∷ 1 ∷ r.routine ∷ [])
+called r k parent next (Err f) = fault f
 
 -- as `resumes` says, of 2W, L, n and 6+G
 unfoldable pub in_order : ℕ → ℕ → ℕ → ℕ → List ℕ → ℕ → Bool

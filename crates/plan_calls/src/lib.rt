@@ -1,6 +1,6 @@
 // Jumps, the static-link walk, calls and returns.
 // Above: `judge`, and `cause` for the walk; below: `plan`, and the words of a segment.
-#![tactic(auto)]
+#![tactic(auto, unfolding(pmachine::specs::Step::target, pmachine::specs::Step::mark_at, plan::specs::Answer::outcome_of, plan::specs::Mirror::in_code, plan::specs::Mirror::jumped, plan::specs::Mirror::branched, plan::specs::Mirror::entry_fault, plan::specs::Mirror::called, plan::specs::Mirror::returned))]
 
 ghost use Rattle.std.specs.Prelude.{◌≡◌, List, ℕ, ◌+◌, ◌≤◌, ◌<◌, length};
 ghost use Rattle.pmachine.specs.Step.{follow, mark_at, target};
@@ -9,7 +9,7 @@ ghost use Rattle.plan.specs.Answer.{regs_of, link_of, outcome_of};
 ghost use Rattle.plan.specs.Mirror.{in_code, jumped, branched, entry_fault, entered, called, in_order, returned};
 ghost use Rattle.plan.specs.Told.{Told};
 
-use plan::{Entry, Facts, Link, Planned, Regs, word_of};
+use plan::{Entry, Facts, Planned, Regs, word_of};
 
 // A target that lies in the code, or 0.
 fn in_code(len: usize, t: usize) -> usize
@@ -64,37 +64,37 @@ pub fn branch(region: &[u16], len: usize, r: Regs, want: u16, next: usize, a: u1
 }
 
 // One static link: the record that the mark at m names.
-fn link(region: &[u16], m: usize) -> Link
+#[tactic(auto, using(pmachine::proofs::Links::follow_none, pmachine::proofs::Links::follow_more))]
+fn link(region: &[u16], m: usize) -> Option<usize>
     requires { m < length region.now }
     ensures { link_of result ≡ follow region.now m 1 }
 {
     let to = word_of(region, m) as usize;
     if to < 1 {
-        return Link::Broken;
+        return None;
     }
     if region.len() < to + 5 {
-        return Link::Broken;
+        return None;
     }
-    Link::Record(to)
+    Some(to)
 }
 
 // d static links: one, and then d - 1 more.
-fn walk(region: &[u16], m: usize, d: u16) -> Link
+#[tactic(auto, using(pmachine::proofs::Links::follow_none, plan::proofs::Links::one_more, plan::proofs::Links::one_broken, plan::proofs::Links::one_inside))]
+fn walk(region: &[u16], m: usize, d: u16) -> Option<usize>
     requires { m < length region.now }
     ensures { link_of result ≡ follow region.now m d }
 {
     if d == 0 {
-        return Link::Record(m);
+        return Some(m);
     }
-    let Link::Record(up) = link(region, m) else {
-        return Link::Broken;
-    };
-    walk(region, up, d - 1)
+    walk(region, link(region, m)?, d - 1)
 }
 
 // The record that d static links lead to. One link and two, the most common numbers, are followed in line. The walk is lent a part that
 // is made for it: a region lent to a call as it came would live in memory, and not in registers, at every step.
-pub fn reach(region: &[u16], m: usize, d: u16) -> Link
+#[tactic(auto, using(basis::proofs::Part::part_all, plan::proofs::Links::one_more, plan::proofs::Links::one_broken, plan::proofs::Links::one_inside))]
+pub fn reach(region: &[u16], m: usize, d: u16) -> Option<usize>
     requires { m < length region.now }
     ensures { link_of result ≡ follow region.now m d }
 {
@@ -102,16 +102,13 @@ pub fn reach(region: &[u16], m: usize, d: u16) -> Link
         return link(region, m);
     }
     if d == 2 {
-        let Link::Record(up) = link(region, m) else {
-            return Link::Broken;
-        };
-        return link(region, up);
+        return link(region, link(region, m)?);
     }
     walk(&region[0..], m, d)
 }
 
 // The fault of a call whose routine has this entry, 0 if it is not linked, from the stack pointer sp, which must be `needed` at least; 0 if there is none.
-// One number for both faults, since a return of its own for each costs some half an instruction at every step.
+// One number for both faults and for none, since a return of its own for each, or a `Result` and `?`, costs instructions at every step.
 fn entry_fault(e: usize, sp: usize, needed: usize) -> u8
     ensures { result ≡ entry_fault e sp needed }
 {
@@ -125,35 +122,37 @@ fn entry_fault(e: usize, sp: usize, needed: usize) -> u8
 }
 
 // Where routine k is entered from the stack pointer sp. Of one that is not linked, word 0 is read as the size, and not used.
-pub fn enter(seg: &[u8], facts: Facts, sp: usize, k: u16) -> Entry
+#[tactic(auto, using(plan::proofs::Links::entry_within, plan::proofs::Links::no_fault), unfolding(plan::specs::Mirror::entered))]
+pub fn enter(seg: &[u8], facts: Facts, sp: usize, k: u16) -> Result<Entry, u8>
     requires { (Loaded seg.now) × (Told seg.now facts) }
     ensures { result ≡ entered seg.now sp k }
 {
     if k < 1 {
-        return Entry::Not(8);
+        return Err(8);
     }
     if facts.count < k as usize {
-        return Entry::Not(8);
+        return Err(8);
     }
     let least = facts.sex == 0;
     let e = operand::word_in(seg, least, facts.dict + k as usize) as usize;
     let size = operand::word_in(seg, least, e) as usize;
     let fault = entry_fault(e, sp, facts.floor + 5 + size);
     if fault != 0 {
-        return Entry::Not(fault);
+        return Err(fault);
     }
-    Entry::To(sp - 5 - size, 2 * (e + 1))
+    Ok(Entry {
+        sp: sp - 5 - size,
+        counter: 2 * (e + 1),
+    })
 }
 
-pub fn call(r: Regs, k: u16, parent: usize, next: usize, e: Entry) -> Planned
+pub fn call(r: Regs, k: u16, parent: usize, next: usize, e: Result<Entry, u8>) -> Planned
     requires { (parent ≤ 65535) × (next ≤ 65535) }
     ensures { (s : List ℕ) → outcome_of s r result ≡ called (regs_of r) k parent next e }
 {
     match e {
-        Entry::To(sp, counter) => {
-            Planned::Call(parent as u16, next as u16, sp, counter, k as usize)
-        }
-        Entry::Not(n) => Planned::Bad(n),
+        Ok(e) => Planned::Call(parent as u16, next as u16, e.sp, e.counter, k as usize),
+        Err(fault) => Planned::Bad(fault),
     }
 }
 
@@ -172,6 +171,7 @@ fn mark_at(region: &[u16], m: usize) -> [u16; 5]
 }
 
 // Whether a mark may be returned through: MSDYN, MSPROC, MSENDV, MSIPC and the new stack pointer.
+#[tactic(auto, unfolding(basis::specs::Bools::inside, plan::specs::Mirror::in_order))]
 fn in_order(len: usize, size: usize, facts: Facts, mark: [u16; 5], sp: usize) -> bool
     ensures { result ≡ in_order len size facts.count facts.floor mark sp }
 {

@@ -1,12 +1,12 @@
 // Words of records, addresses, and the constant pool: what is read, and where a word may be stored.
 // Above: `judge`; below: `plan`.
-#![tactic(auto)]
+#![tactic(auto, unfolding(plan::specs::Answer::outcome_of, plan::specs::Mirror::lack, plan::specs::Mirror::loaded, plan::specs::Mirror::addressed, plan::specs::Mirror::stored, plan::specs::Mirror::gives, plan::specs::Mirror::read_at, plan::specs::Mirror::stored_at, plan::specs::Mirror::pooled))]
 
 ghost use Rattle.std.specs.Prelude.{◌≡◌, List, ℕ, ◌≤◌, length, get_or};
 ghost use Rattle.plan.specs.Answer.{regs_of, outcome_of};
 ghost use Rattle.plan.specs.Mirror.{lack, loaded, addressed, stored, gives, read_at, stored_at, pooled};
 
-use plan::{Planned, Read, Regs, push, word_of};
+use plan::{Planned, Regs, push, word_of};
 
 // Offset a of the record at rec.
 pub fn load(region: &[u16], floor: usize, r: Regs, rec: usize, a: u16, next: usize) -> Planned
@@ -49,33 +49,33 @@ pub fn store(region: &[u16], r: Regs, rec: usize, a: u16, next: usize) -> Planne
 }
 
 // The word i words on from the address base.
-fn read_at(region: &[u16], shared: &[u16], base: u16, i: u16) -> Read
+fn read_at(region: &[u16], shared: &[u16], base: u16, i: u16) -> Option<u16>
     requires { (length region.now ≤ 32768) × (length shared.now ≤ 32768) }
     ensures { result ≡ read_at region.now shared.now base i }
 {
     if base < 1 {
-        return Read::Missing;
+        return None;
     }
     let at = base as usize + i as usize;
     if at < region.len() {
-        return Read::Value(word_of(region, at));
+        return Some(word_of(region, at));
     }
     if at < 32768 {
-        return Read::Missing;
+        return None;
     }
     if shared.len() <= at - 32768 {
-        return Read::Missing;
+        return None;
     }
-    Read::Value(word_of(shared, at - 32768))
+    Some(word_of(shared, at - 32768))
 }
 
 // A word that was read, in the place of its address.
-fn give_read(r: Regs, next: usize, x: Read) -> Planned
+fn give_read(r: Regs, next: usize, x: Option<u16>) -> Planned
     ensures { (s : List ℕ) → outcome_of s r result ≡ gives (regs_of r) next x }
 {
     match x {
-        Read::Value(v) => Planned::One(v, next),
-        Read::Missing => Planned::Bad(6),
+        Some(v) => Planned::One(v, next),
+        None => Planned::Bad(6),
     }
 }
 

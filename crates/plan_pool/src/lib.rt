@@ -1,6 +1,6 @@
 // Words of the constant pool: those that LDC pushes, and XJP's table, by which an index chooses a byte of the code.
 // Above: `judge`; below: `plan`, the jump of `plan_calls`, and the words of a segment.
-#![tactic(auto)]
+#![tactic(auto, unfolding(plan::specs::Answer::outcome_of, plan::specs::Mirror::words_at, plan::specs::Mirror::sex_by, plan::specs::Mirror::blocked, plan::specs::Mirror::case_at, plan::specs::Mirror::chosen))]
 
 ghost use Rattle.std.specs.Prelude.{◌≡◌, List, ℕ, ◌≤◌};
 ghost use Rattle.pmachine.specs.Sound.{Loaded};
@@ -8,29 +8,29 @@ ghost use Rattle.plan.specs.Answer.{regs_of, outcome_of};
 ghost use Rattle.plan.specs.Mirror.{words_at, sex_by, blocked, case_at, chosen};
 ghost use Rattle.plan.specs.Told.{Told};
 
-use plan::{Case, Facts, Found, Planned, Regs};
+use plan::{Case, Facts, Planned, Regs};
 use plan_calls::jump;
 
 // The word of the segment from which n words of the pool are pushed, or the fault. Of some words the real pool's start decides, which is 0 with no pool; of
 // no words only a pool is asked for.
-pub fn words_at(facts: Facts, sp: usize, b: u16, n: u16) -> Found
+pub fn words_at(facts: Facts, sp: usize, b: u16, n: u16) -> Result<u16, u8>
     requires { (facts.pool ≤ 32767) × ((facts.reals ≤ 32767) × (facts.floor ≤ 65535)) }
     ensures { result ≡ words_at facts.pool facts.reals facts.floor sp b n }
 {
     if n != 0 {
         let first = facts.pool + b as usize;
         if facts.reals < first + n as usize {
-            return Found::Fault(6);
+            return Err(6);
         }
         if sp < facts.floor + n as usize {
-            return Found::Fault(4);
+            return Err(4);
         }
-        return Found::At(first as u16);
+        return Ok(first as u16);
     }
     if facts.pool == 0 {
-        return Found::Fault(6);
+        return Err(6);
     }
-    Found::At(0)
+    Ok(0)
 }
 
 // The sex in which LDC's words are read: the segment's if the mode is 2, else our own, least byte first.
@@ -41,12 +41,12 @@ fn sex_by(sex: usize, mode: u16) -> usize
 }
 
 // n words on the stack, as they were found.
-pub fn block(sex: usize, mode: u16, r: Regs, n: u16, next: usize, f: Found) -> Planned
+pub fn block(sex: usize, mode: u16, r: Regs, n: u16, next: usize, f: Result<u16, u8>) -> Planned
     ensures { (s : List ℕ) → outcome_of s r result ≡ blocked s (sex_by sex mode) (regs_of r) n next f }
 {
     match f {
-        Found::At(first) => Planned::Block(first, n as usize, next, sex_by(sex, mode)),
-        Found::Fault(k) => Planned::Bad(k),
+        Ok(first) => Planned::Block(first, n as usize, next, sex_by(sex, mode)),
+        Err(fault) => Planned::Bad(fault),
     }
 }
 

@@ -1,6 +1,6 @@
 // Words on the stack: what is taken from it and given to it.
 // Above: `judge`; below: `plan`, and the integers of `word` and `compare`.
-#![tactic(auto)]
+#![tactic(auto, unfolding(plan::specs::Answer::outcome_of, plan::specs::Mirror::lack, plan::specs::Mirror::divided, plan::specs::Mirror::checked))]
 
 ghost use Rattle.std.specs.Prelude.{◌≡◌, List, ℕ, ◌+◌, ◌≤◌, get_or};
 ghost use Rattle.plan.specs.Answer.{regs_of, outcome_of};

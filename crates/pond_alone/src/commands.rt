@@ -1,46 +1,45 @@
 // The commands that need no bench by their forms, and which words each takes.
 // Above it: the words of the shell, and the console. Below it: a function for each command, and the words of the commands.
-use numbers::Number;
 use pond_parts::Part;
 use pond_rows::{View, row};
 use pond_run::Size;
 use pond_say::Outcome;
 use pond_words::forms::expected;
-use pond_words::{Given, forms, numbers_at};
-use text::{piece, same};
+use pond_words::{Command, Form, Given, Keep, forms, numbers_at};
 
-// Follows the command on the tape, with n words behind its verb.
-pub fn follow(rt: &HostRuntime, form: u8, tape: &[u8], n: u8) -> Outcome {
-    if !forms::fits(form, n) {
-        return unfit(form, n);
+// Follows the command on the tape.
+pub fn follow(rt: &HostRuntime, c: Command) -> Outcome {
+    if !forms::fits(c.form, c.n) {
+        return unfit(c);
     }
-    match form {
-        forms::CHECK => pond_segments::check(rt, row(tape, 1)),
-        forms::LIST => list(rt, tape, n),
-        forms::TURN_FILE => pond_segments::turn(rt, row(tape, 1), row(tape, 2)),
-        forms::RUN => run(rt, tape, n),
-        forms::HELP => help(row(tape, 1)),
-        forms::KEEP => keep(tape, n),
-        forms::DEMO => {
+    let first = row(c.tape, 1);
+    match c.form {
+        Form::Check => pond_segments::check(rt, first),
+        Form::List => list(rt, c),
+        Form::TurnFile => pond_segments::turn(rt, first, row(c.tape, 2)),
+        Form::Run => run(rt, c),
+        Form::Help => help(first),
+        Form::Keep => keep(c),
+        Form::Demo => {
             pond_demo::demo(rt);
             Outcome::Done
         }
-        forms::VERSION => {
+        Form::Version => {
             pond_say::text(b"pond 8, the console of Aithomedu\n");
             Outcome::Done
         }
         // Lines end at this word; as the program's only argument it does nothing.
-        forms::QUIT => Outcome::Done,
-        _ => forms::unknown(row(tape, 0)),
+        Form::Quit => Outcome::Done,
+        _ => forms::unknown(row(c.tape, 0)),
     }
 }
 
 // Too few words for `turn FILE OUT` may be too few for a session's turn.
-fn unfit(form: u8, n: u8) -> Outcome {
-    if bounds::both(form == forms::TURN_FILE, n < 2) {
-        return expected(forms::EITHER_TURN);
+fn unfit(c: Command) -> Outcome {
+    if c.form == Form::TurnFile && c.n < 2 {
+        return expected(Form::EitherTurn);
     }
-    expected(form)
+    expected(c.form)
 }
 
 fn help(command: &[u8]) -> Outcome {
@@ -51,97 +50,67 @@ fn help(command: &[u8]) -> Outcome {
 }
 
 // All of a listing, or a part of it.
-fn list(rt: &HostRuntime, tape: &[u8], n: u8) -> Outcome {
-    if n == 1 {
-        return pond_segments::list(rt, row(tape, 1));
+fn list(rt: &HostRuntime, c: Command) -> Outcome {
+    let file = row(c.tape, 1);
+    match (c.n, numbers::number_of(row(c.tape, 3)), row(c.tape, 2)) {
+        (1, _, _) => pond_segments::list(rt, file),
+        (3, Ok(k), b"routine") => pond_parts::list_part(rt, file, Part::Routine(k)),
+        (3, Ok(k), b"near") => pond_parts::list_part(rt, file, Part::Near(k)),
+        _ => expected(Form::List),
     }
-    if n == 3 {
-        let k = numbers::number_of(row(tape, 3));
-        if let Number::Value(k) = k {
-            return part(rt, row(tape, 1), row(tape, 2), k);
-        }
-    }
-    expected(forms::LIST)
 }
 
-fn part(rt: &HostRuntime, file: &[u8], which: &[u8], k: u64) -> Outcome {
-    if same(which, b"routine") {
-        return pond_parts::list_part(rt, file, Part::Routine(k));
+// `run FILE [WORDS [STEPS]] [with ARCHIVE [for FARM]]`.
+fn run(rt: &HostRuntime, c: Command) -> Outcome {
+    let last = row(c.tape, usize::from(c.n));
+    if with_at(c, 3) {
+        return run_for(rt, c, last);
     }
-    if same(which, b"near") {
-        return pond_parts::list_part(rt, file, Part::Near(k));
+    if with_at(c, 1) {
+        return sized(rt, c, 3, last, View::All);
     }
-    expected(forms::LIST)
+    sized(rt, c, 1, b"", View::All)
 }
 
-// `run FILE [WORDS [STEPS]] [with ARCHIVE [for FARM]]`, where n words stand behind its verb. No tape has word 8: then there is no archive.
-fn run(rt: &HostRuntime, tape: &[u8], n: u8) -> Outcome {
-    if with_at(tape, less(n, 3)) {
-        return run_for(rt, tape, n);
-    }
-    if with_at(tape, less(n, 1)) {
-        return sized(rt, tape, less(n, 3), row(tape, n as usize), View::All);
-    }
-    sized(rt, tape, less(n, 1), row(tape, 8), View::All)
+// Whether `with` stands so many words before the last, behind FILE.
+fn with_at(c: Command, before: u8) -> bool {
+    2 <= c.n.saturating_sub(before) && forms::stands(c, before, b"with")
 }
 
-// Whether word k is `with`, behind FILE.
-fn with_at(tape: &[u8], k: u8) -> bool {
-    if k < 2 {
-        return false;
+fn run_for(rt: &HostRuntime, c: Command, farm: &[u8]) -> Outcome {
+    if !forms::stands(c, 1, b"for") {
+        return expected(c.form);
     }
-    same(row(tape, k as usize), b"with")
+    let Some(farm) = pond_words::farm(farm, c.form) else {
+        return Outcome::Typing;
+    };
+    let archive = row(c.tape, usize::from(c.n.saturating_sub(2)));
+    sized(rt, c, 5, archive, View::Farm(farm))
 }
 
-fn run_for(rt: &HostRuntime, tape: &[u8], n: u8) -> Outcome {
-    if !forms::stands(tape, n, 1, b"for") {
-        return expected(forms::RUN);
-    }
-    let f = pond_words::farm(row(tape, n as usize), forms::RUN);
-    if f.ok {
-        let view = View::Farm((f.value % 65536) as u16);
-        return sized(rt, tape, less(n, 5), row(tape, less(n, 2) as usize), view);
-    }
-    Outcome::Typing
-}
-
-fn less(n: u8, by: u8) -> u8 {
-    if n < by {
-        return 0;
-    }
-    n - by
-}
-
-// The same, where so many of WORDS and STEPS are given.
-fn sized(rt: &HostRuntime, tape: &[u8], count: u8, archive: &[u8], view: View) -> Outcome {
+// The same, where all but so many of the words are WORDS and STEPS.
+fn sized(rt: &HostRuntime, c: Command, others: u8, archive: &[u8], view: View) -> Outcome {
+    let count = c.n.saturating_sub(others);
     if 2 < count {
-        return expected(forms::RUN);
+        return expected(c.form);
     }
-    let p = numbers_at(forms::RUN, tape, 2, count);
-    if p.ok {
-        return pond_run::run(rt, row(tape, 1), size(p), archive, view);
-    }
-    Outcome::Typing
-}
-
-fn size(p: Given) -> Size {
-    let count = p.count;
-    match count {
-        0 => Size::Usual,
-        1 => Size::Words(p.first),
-        _ => Size::Both(p.first, p.second),
-    }
+    let size = match numbers_at(c.form, c.tape, 2, count) {
+        Some(Given::Nothing) => Size::Usual,
+        Some(Given::One(words)) => Size::Words(words),
+        Some(Given::Two(words, steps)) => Size::Both(words, steps),
+        None => return Outcome::Typing,
+    };
+    pond_run::run(rt, row(c.tape, 1), size, archive, view)
 }
 
 // What a script goes on after is kept by the console itself.
-fn keep(tape: &[u8], n: u8) -> Outcome {
-    let k = forms::keeps(tape, n);
-    if k == 0 {
-        return expected(forms::KEEP);
+fn keep(c: Command) -> Outcome {
+    match forms::keeps(c.tape, c.n) {
+        None | Some(Keep::Nothing) => return expected(c.form),
+        Some(Keep::Faults) => {
+            pond_say::text(b"from here on a report's fault does not stop this script\n")
+        }
+        Some(Keep::Failures) => pond_say::text(b"from here on no failure stops this script\n"),
     }
-    pond_say::text(piece(
-        b";from here on a report's fault does not stop this script\n;from here on no failure stops this script\n",
-        k,
-    ));
     Outcome::Done
 }

@@ -2,32 +2,30 @@
 // Above it: the program. Below it: the commands that need no bench, and what is typed.
 use crate::commands::follow;
 use pond_lines::heard::behind;
-use pond_rows::row;
+use pond_rows::{Bytes, row};
 use pond_say::Outcome;
-use pond_typed::Cut;
-use pond_words::forms;
+use pond_typed::Miscut;
+use pond_words::{Command, forms};
 
 // The program's arguments are one command.
 pub fn arguments(rt: &HostRuntime) {
     let mut tape = pond_rows::tape();
-    let c = pond_typed::arguments(rt, &mut tape);
-    let o = asked(rt, &tape, c);
-    pond_say::leave(pond_say::status(o));
+    let words = pond_typed::arguments(rt, &mut tape);
+    let o = asked(rt, &tape, words);
+    pond_say::leave(o);
 }
 
-fn asked(rt: &HostRuntime, tape: &[u8], c: Cut) -> Outcome {
-    if c.unclosed {
-        return Outcome::Typing;
+fn asked(rt: &HostRuntime, tape: &[Bytes], words: Result<usize, Miscut>) -> Outcome {
+    let n = match words {
+        Ok(words) => behind(words),
+        Err(why) => return pond_typed::wrong(why),
+    };
+    let verb = row(tape, 0);
+    match forms::named(tape) {
+        None => forms::unknown(verb),
+        Some(form) if forms::on_bench(form) => no_bench(verb),
+        Some(form) => follow(rt, Command { form, tape, n }),
     }
-    let w = pond_typed::wrong(c);
-    if !pond_say::went(w) {
-        return w;
-    }
-    let form = forms::named(tape);
-    if forms::on_bench(form) {
-        return no_bench(row(tape, 0));
-    }
-    follow(rt, form, tape, behind(c.words))
 }
 
 // A bench is the console's. A command on it that is given in the shell would find a new one, and leave nothing.

@@ -7,5 +7,5 @@ mod filled;
 mod sheets;
 
 pub use farms::{archive, farm};
-pub use filled::{bench_of, eight, made, records};
+pub use filled::{bench_of, made, records};
 pub use sheets::read;

@@ -1,8 +1,6 @@
 // A text file of records, judged whole and turned into bytes.
 // Above it: the commands that fill the archive, and run. Below it: files, and records as text.
 use pond_phrases::say;
-use pond_sheet::Sheet;
-use text::front;
 
 // The most bytes of such a file.
 const MOST: usize = 524288;
@@ -12,40 +10,28 @@ fn space() -> [u8; 524289] {
     [0u8; 524289]
 }
 
-// The file's records into bytes, eight bytes each; where it is not ok, it has been said why not.
-pub fn read(rt: &HostRuntime, file: &[u8], bytes: &mut [u8]) -> Sheet {
+// The file's records as bytes, eight bytes each; where it cannot be taken, it has been said why not.
+pub fn read<'a>(rt: &HostRuntime, file: &[u8], bytes: &'a mut [u8]) -> Option<&'a [u8]> {
     let mut room = space();
-    let got = pond_files::read(rt, file, &mut room);
-    if !got.ok {
-        return none();
-    }
-    of_text(file, front(&room, got.count), bytes)
+    let text = pond_files::read(rt, file, &mut room)?;
+    of_text(file, text, bytes)
 }
 
-fn of_text(file: &[u8], text: &[u8], bytes: &mut [u8]) -> Sheet {
+fn of_text<'a>(file: &[u8], text: &[u8], bytes: &'a mut [u8]) -> Option<&'a [u8]> {
     if MOST < text.len() {
-        return cannot(file, b" has more than # bytes\n");
+        cannot(file, b" has more than # bytes\n");
+        return None;
     }
-    let s = pond_sheet::read(file, text, bytes);
-    if bounds::both(s.ok, s.count == 0) {
-        return cannot(file, b" has no records\n");
+    let records = pond_sheet::read(file, text, bytes)?;
+    if records.is_empty() {
+        cannot(file, b" has no records\n");
+        return None;
     }
-    s
+    Some(records)
 }
 
-fn cannot(file: &[u8], phrase: &[u8]) -> Sheet {
+fn cannot(file: &[u8], phrase: &[u8]) {
     pond_say::text(b"cannot fill: ");
     pond_say::path(file);
-    say(phrase, MOST as u64, 0, 0);
-    none()
-}
-
-fn none() -> Sheet {
-    Sheet {
-        ok: false,
-        line: 0,
-        count: 0,
-        farm: 0,
-        fresh: false,
-    }
+    say(phrase, &[MOST as u64]);
 }

@@ -2,12 +2,13 @@
 // its entries alone; what is decided here is how a long turn is cut into turns, and when it says how far it is.
 // Above it: the console, which reads the words of a command. Below it: the bench, what can be seen of it, and how the console speaks.
 //
-// A bench goes in by value and comes back. The memory is the bench's own words and no others; the store has 65,536 bytes for each slot.
+// A site lends each command the bench, which the command changes there, and all that goes with it.
 #![tactic(auto)]
 
 mod sessions;
-pub mod turns;
+mod site;
+mod turns;
 
 pub use pond_look::{Next, Wanted, map, shared, words};
-pub use sessions::{close, open, open_for, open_window, show};
-pub use turns::turn;
+pub use site::Site;
+pub use turns::stopped;

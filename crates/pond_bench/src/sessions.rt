@@ -1,149 +1,134 @@
 // `open SLOT WORDS`, also for a farm or with a window, `show SESSION`, `close SESSION`.
 // Above it: the console. Below it: the bench, the archive, and what is told of windows and of a fault.
-use bench::{Answer, Out};
+use crate::site::Site;
+use bench::{Out, Refusal};
 use plan::Regs;
-use pond_look::{Next, refusals, told};
-use pond_phrases::{begun, say};
-use pond_rows::View;
+use pond_look::{refusals, told};
+use pond_phrases::say;
+use pond_rows::{Bytes, View};
 use pond_say::Outcome;
-use pond_why::faults;
-use sound::Bench;
+use sound::Window;
 
 // Every opening is one of three: with all shared words, with a farm's records, and with a window that is named by its numbers.
-pub fn open(
-    b: Bench,
-    memory: &mut [u16],
-    store: &[u8],
-    book: &mut [u8],
-    slot: u64,
-    words: u64,
-    name: &[u8],
-) -> Next {
-    let out = bench::open_session(b, memory, store, slot as usize, words as usize);
-    answered(out, memory, book, slot, name, View::All)
-}
-
-pub fn open_for(
-    b: Bench,
-    memory: &mut [u16],
-    store: &[u8],
-    book: &mut [u8],
-    slot: u64,
-    words: u64,
-    name: &[u8],
-    farm: u16,
-) -> Next {
-    let out = archive::open_farm(b, memory, store, slot as usize, words as usize, farm);
-    answered(out, memory, book, slot, name, View::Farm(farm))
-}
-
-pub fn open_window(
-    b: Bench,
-    memory: &mut [u16],
-    store: &[u8],
-    book: &mut [u8],
-    slot: u64,
-    words: u64,
-    name: &[u8],
-    first: u64,
-    count: u64,
-) -> Next {
-    let out = pond_windows::open_window(
-        b,
-        memory,
-        store,
-        slot as usize,
-        words as usize,
-        first as usize,
-        count as usize,
-    );
-    answered(out, memory, book, slot, name, View::Window)
-}
-
-// What an opening answered: the session's lines, and its name and what it was opened for into the book; or the refusal.
-fn answered(out: Out, memory: &[u16], book: &mut [u8], slot: u64, name: &[u8], view: View) -> Next {
-    let answer = out.answer;
-    let bench = out.bench;
-    let outcome = match answer {
-        Answer::Done(i) => opened(bench, book, i as usize, name, view),
-        Answer::Refused(number, place) => not_opened(bench, memory, slot, number, place),
-    };
-    Next { bench, outcome }
-}
-
-fn opened(b: Bench, book: &mut [u8], i: usize, name: &[u8], view: View) -> Outcome {
-    pond_rows::put(book, pond_rows::session_row(i), name);
-    pond_rows::put_view(book, i, view);
-    let o = state(b, book, i);
-    pond_windows::opened(pond_windows::seen_by(book, told::record(b, i), i));
-    o
-}
-
-fn not_opened(b: Bench, memory: &[u16], slot: u64, number: u8, place: u16) -> Outcome {
-    if number == 23 {
-        return pond_windows::refused(b, memory, number, place);
+impl Site<'_> {
+    pub fn open(&mut self, slot: u64, words: u64, name: &[u8]) -> Outcome {
+        let out = bench::open_session(
+            self.bench,
+            self.memory,
+            self.store,
+            slot as usize,
+            words as usize,
+        );
+        self.answered(out, slot, name, View::All)
     }
-    refusals::not_loaded(number, place, slot)
-}
 
-// `session 0 north: slot 0 north, words 8 to 107 of memory, ready, from north.seg`
-fn state(b: Bench, book: &[u8], i: usize) -> Outcome {
-    let se = told::record(b, i);
-    told::session(book, i);
-    pond_say::text(b": ");
-    told::slot_of(book, se.slot);
-    told::span(b", words # to # of memory, ", se.base, se.len);
-    told::stands(book, se);
-    Outcome::Done
-}
-
-// A session's fault is told and is no failure of this command.
-pub fn show(b: Bench, memory: &[u16], store: &[u8], book: &[u8], session: u64) -> Outcome {
-    let i = session as usize;
-    let se = told::record(b, i);
-    if !se.used {
-        return refusals::of_session(12, 0, session);
+    pub fn open_for(&mut self, slot: u64, words: u64, name: &[u8], farm: u16) -> Outcome {
+        let out = archive::open_farm(
+            self.bench,
+            self.memory,
+            self.store,
+            slot as usize,
+            words as usize,
+            farm,
+        );
+        self.answered(out, slot, name, View::Farm(farm))
     }
-    let seen = pond_windows::seen_by(book, se, i);
-    state(b, book, i);
-    pond_windows::shown(seen);
-    let cpu = se.cpu;
-    registers(cpu.regs);
-    pond_look::deepest(b, store, se);
-    faults::instruction(b, store, se);
-    faults::reason(b, memory, store, se, seen);
-    Outcome::Done
+
+    pub fn open_window(
+        &mut self,
+        slot: u64,
+        words: u64,
+        name: &[u8],
+        first: u64,
+        count: u64,
+    ) -> Outcome {
+        let window = Window {
+            first: first as usize,
+            len: count as usize,
+        };
+        let out = bench::open_window(
+            self.bench,
+            self.memory,
+            self.store,
+            slot as usize,
+            words as usize,
+            window,
+        );
+        self.answered(out, slot, name, View::Window)
+    }
+
+    // What an opening answered: the session's lines, and its name and what it was opened for into the book; or the refusal.
+    fn answered(&mut self, out: Out, slot: u64, name: &[u8], view: View) -> Outcome {
+        self.bench = out.bench;
+        match out.answer {
+            Ok(i) => self.opened(i as usize, name, view),
+            Err(refusal) => self.not_opened(slot, refusal),
+        }
+    }
+
+    fn opened(&mut self, i: usize, name: &[u8], view: View) -> Outcome {
+        pond_rows::put(self.book, pond_rows::session_row(i), name);
+        pond_rows::put_view(self.book, i, view);
+        self.state(i);
+        let se = self.session(i);
+        pond_windows::opened(pond_windows::seen_by(self.book, se, i));
+        Outcome::Done
+    }
+
+    fn not_opened(&self, slot: u64, refusal: Refusal) -> Outcome {
+        if refusal == Refusal::NotArchive {
+            return pond_windows::refused(self.bench, self.memory, refusal);
+        }
+        refusals::not_loaded(refusal, slot)
+    }
+
+    // `session 0 north: slot 0 north, words 8 to 107 of memory, ready, from north.seg`
+    fn state(&self, i: usize) {
+        let se = self.session(i);
+        told::session(self.book, i);
+        pond_say::text(b": ");
+        told::slot_of(self.book, se.slot);
+        told::span(b", words # to # of memory, ", se.base, se.len);
+        told::stands(self.book, se);
+    }
+
+    // A session's fault is told and is no failure of this command.
+    pub fn show(&self, session: u64) -> Outcome {
+        let i = session as usize;
+        let se = self.session(i);
+        if !se.used {
+            return refusals::of_session(Refusal::NotThere, session);
+        }
+        self.state(i);
+        pond_windows::shown(pond_windows::seen_by(self.book, se, i));
+        registers(se.cpu.regs);
+        pond_look::deepest(self.bench, self.store, se);
+        self.instruction(i);
+        self.reason(i);
+        Outcome::Done
+    }
+
+    pub fn close(&mut self, session: u64) -> Outcome {
+        let i = session as usize;
+        let se = self.session(i);
+        let out = bench::close(self.bench, self.memory, self.store, i);
+        self.bench = out.bench;
+        match out.answer {
+            Ok(_) => {
+                told::session(self.book, i);
+                told::span(b": closed, words # to # are free\n", se.base, se.len);
+                pond_rows::put(self.book, pond_rows::session_row(i), b"");
+                pond_rows::put_view(self.book, i, View::All);
+                Outcome::Done
+            }
+            Err(refusal) => refusals::of_session(refusal, session),
+        }
+    }
 }
 
 fn registers(r: Regs) {
-    let rest = begun(
+    say(
         b"  SP #, M #, counter #, routine #\n",
-        r.sp as u64,
-        r.m as u64,
-        r.counter as u64,
+        &[r.sp as u64, r.m as u64, r.counter as u64, r.routine as u64],
     );
-    say(rest, r.routine as u64, 0, 0);
-}
-
-pub fn close(b: Bench, memory: &mut [u16], store: &[u8], book: &mut [u8], session: u64) -> Next {
-    let i = session as usize;
-    let se = told::record(b, i);
-    let out = bench::close(b, memory, store, i);
-    let answer = out.answer;
-    let bench = out.bench;
-    let outcome = match answer {
-        Answer::Done(_) => {
-            closed(book, i, se.base, se.len);
-            pond_rows::put(book, pond_rows::session_row(i), b"");
-            pond_rows::put_view(book, i, View::All);
-            Outcome::Done
-        }
-        Answer::Refused(number, place) => refusals::of_session(number, place, session),
-    };
-    Next { bench, outcome }
-}
-
-fn closed(book: &[u8], i: usize, base: usize, len: usize) {
-    told::session(book, i);
-    told::span(b": closed, words # to # are free\n", base, len);
 }

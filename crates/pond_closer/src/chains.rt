@@ -1,120 +1,77 @@
 // Where a session stands: its next instruction, and the calls that led to it, the last one first.
 // Above it: show. Below it: the listing, and the marks in the session's words.
-ghost use Rattle.std.specs.Prelude.{◌-◌, ◌≤◌};
-
 use machine::Kind;
+use plan::Regs;
+use pond_bench::Site;
 use pond_look::told;
 use pond_phrases::say;
-use sound::{Bench, Session};
 
 // The most calls that are shown.
 const MOST: u8 = 30;
 
-// A record and its routine, while there is one.
+// A routine that was called, and its record.
 #[derive(Clone, Copy)]
-struct Record {
-    there: bool,
+struct Call {
     m: usize,
-    routine: u64,
+    routine: usize,
 }
 
 // Of a session that is finished nothing is told; of one that has faulted, only its calls.
-pub fn closer(b: Bench, memory: &[u16], store: &[u8], session: u64) {
-    let se = told::record(b, session as usize);
-    let cpu = se.cpu;
-    let kind = cpu.kind;
-    match kind {
+pub fn closer(site: &Site, session: u64) {
+    let se = told::record(site.bench, session as usize);
+    let regs = se.cpu.regs;
+    let region = told::region(site.memory, se.base, se.len);
+    match se.cpu.kind {
         Kind::Ready => {
-            next(b, store, se);
-            calls(told::region(memory, se.base, se.len), se);
+            pond_say::text(b"next instruction:\n");
+            listing::line(told::code(site.bench, site.store, se.slot), regs.counter);
+            calls(region, regs);
         }
-        Kind::Faulted(_, _) => {
-            calls(told::region(memory, se.base, se.len), se);
-        }
+        Kind::Faulted(_, _) => calls(region, regs),
         Kind::Finished => {}
     }
 }
 
-fn next(b: Bench, store: &[u8], se: Session) {
-    let cpu = se.cpu;
-    let regs = cpu.regs;
-    pond_say::text(b"next instruction:\n");
-    listing::line(told::code(b, store, se.slot), regs.counter);
-}
-
-fn calls(region: &[u16], se: Session) {
-    let cpu = se.cpu;
-    let regs = cpu.regs;
+fn calls(region: &[u16], regs: Regs) {
     pond_say::text(b"calls, the last one first:\n");
-    let mut r = Record {
-        there: true,
+    let mut call = Call {
         m: regs.m,
-        routine: regs.routine as u64,
+        routine: regs.routine,
     };
-    let mut left = MOST;
-    while left > 0 {
-        r = call(region, r);
-        left = fewer(left, r.there);
+    for _ in 0..MOST {
+        let Some(before) = call.told(region) else {
+            return
+        };
+        call = before;
     }
-    if r.there {
-        pond_say::text(b"  and more\n");
-    }
+    pond_say::text(b"  and more\n");
 }
 
-// One less, or none where no record is left.
-fn fewer(left: u8, more: bool) -> u8
-    ensures { result ≤ left - 1 }
-{
-    if !more {
-        return 0;
-    }
-    if left == 0 {
-        return 0;
-    }
-    left - 1
-}
-
-// Tells of a record, and answers the one whose routine called. A mark is MSSTAT, MSDYN, MSIPC, MSENDV and MSPROC, from the record's word on.
-fn call(region: &[u16], r: Record) -> Record {
-    say(b"  routine #, record at word #", r.routine, r.m as u64, 0);
-    if r.m < 2 {
-        pond_say::text(b": the first\n");
-        return last();
-    }
-    let place = told::past(r.m, 2);
-    returning(
-        word(region, place),
-        word(region, told::past(r.m, 4)),
-        word(region, told::past(r.m, 1)),
-    )
-}
-
-fn last() -> Record {
-    Record {
-        there: false,
-        m: 0,
-        routine: 0,
-    }
-}
-
-fn returning(byte: u16, routine: u16, m: u16) -> Record {
-    say(
-        b", returns to byte # of routine #\n",
-        byte as u64,
-        routine as u64,
-        0,
-    );
-    Record {
-        there: m > 0,
-        m: m as usize,
-        routine: routine as u64,
+impl Call {
+    // Tells of it, and answers the one whose routine called. A mark is MSSTAT, MSDYN, MSIPC, MSENDV and MSPROC, from the record's word on.
+    fn told(self, region: &[u16]) -> Option<Call> {
+        say(
+            b"  routine #, record at word #",
+            &[self.routine as u64, self.m as u64],
+        );
+        if self.m < 2 {
+            pond_say::text(b": the first\n");
+            return None;
+        }
+        let mark = |k: usize| usize::from(word(region, told::past(self.m, k)));
+        let (m, byte, routine) = (mark(1), mark(2), mark(4));
+        say(
+            b", returns to byte # of routine #\n",
+            &[byte as u64, routine as u64],
+        );
+        if m == 0 {
+            return None;
+        }
+        Some(Call { m, routine })
     }
 }
 
 // A word of the session, or 0 where it has no such word.
 fn word(region: &[u16], at: usize) -> u16 {
-    if at < region.len() {
-        return region[at];
-    }
-    0
+    region.get(at).copied().unwrap_or(0)
 }

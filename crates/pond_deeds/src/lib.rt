@@ -2,36 +2,32 @@
 // Above it: the console. Below it: the words of the commands, which say what is to be done.
 #![tactic(auto)]
 
-use pond_bench::{Next, Wanted};
-use pond_rows::row;
+use pond_bench::{Next, Site, Wanted};
+use pond_rows::Bytes;
 use pond_say::Outcome;
-use pond_words::{Deed, Given};
+use pond_words::{Command, Deed, Given, Opening, Sight};
 use sound::Bench;
 
-// The command on the tape, with n words behind its verb. A new bench is made over all of the memory, and every other command is lent the
-// bench's own words.
+// The command on the tape. A new bench is made over all of the memory, and every other command is lent the bench's own words.
 pub fn follow(
     rt: &HostRuntime,
-    form: u8,
+    c: Command,
     b: Bench,
     memory: &mut [u16],
     store: &mut [u8],
-    book: &mut [u8],
-    tape: &[u8],
-    n: u8,
+    book: &mut [Bytes],
 ) -> Next {
-    let d = pond_words::read(form, book, tape, n);
-    if let Deed::Bench(n, s) = d {
-        return pond_slots::new_bench(b, memory, book, n, s);
+    let Some(d) = pond_words::read(book, c) else {
+        return kept(b, Outcome::Typing);
+    };
+    match d {
+        Deed::Bench(n, s) => pond_slots::new_bench(b, memory, book, n, s),
+        Deed::BenchOf(n, file) => pond_archive::bench_of(rt, b, memory, book, n, file),
+        _ => match memory.get_mut(..b.n) {
+            Some(words) => lent(rt, d, b, words, store, book),
+            None => kept(b, Outcome::Done),
+        },
     }
-    if let Deed::BenchOf(n) = d {
-        return pond_archive::bench_of(rt, b, memory, book, n, row(tape, 3));
-    }
-    let words = b.n;
-    if words <= memory.len() {
-        return lent(rt, d, b, &mut memory[0..words], store, book, tape);
-    }
-    kept(b, Outcome::Done)
 }
 
 // The bench as it was.
@@ -42,97 +38,90 @@ fn kept(bench: Bench, outcome: Outcome) -> Next {
 fn lent(
     rt: &HostRuntime,
     d: Deed,
-    b: Bench,
+    bench: Bench,
     memory: &mut [u16],
     store: &mut [u8],
-    book: &mut [u8],
-    tape: &[u8],
+    book: &mut [Bytes],
 ) -> Next {
     match d {
-        Deed::Load(slot) => {
-            pond_slots::load(rt, b, memory, store, book, slot, row(tape, 8), row(tape, 2))
+        Deed::Load(slot, file) => {
+            return pond_slots::load(rt, bench, memory, store, book, slot, b"", file);
         }
-        Deed::LoadNamed => {
-            pond_slots::load_named(rt, b, memory, store, book, row(tape, 1), row(tape, 2))
+        Deed::LoadNamed(name, file) => {
+            return pond_slots::load_named(rt, bench, memory, store, book, name, file);
         }
-        Deed::Open(_, _, _) | Deed::OpenFor(_, _, _, _) | Deed::OpenWindow(_, _, _, _, _) => {
-            opened(d, b, memory, store, book, tape)
+        Deed::Fill(file) => {
+            return kept(bench, pond_slots::fill(rt, bench, memory, book, file));
         }
-        Deed::Turn(s, steps) => pond_bench::turn(rt, b, memory, store, book, s, steps),
-        Deed::Close(s) => pond_bench::close(b, memory, store, book, s),
-        Deed::Step(s, steps) => pond_closer::step(rt, b, memory, store, book, s, steps),
-        Deed::Fill => kept(b, pond_slots::fill(rt, b, memory, book, row(tape, 1))),
-        Deed::Records => kept(b, pond_archive::records(rt, b, memory, book, row(tape, 1))),
-        _ => kept(b, seen(rt, d, b, memory, store, book, row(tape, 2))),
+        Deed::Records(file) => {
+            return kept(bench, pond_archive::records(rt, bench, memory, book, file));
+        }
+        _ => {}
+    }
+    let mut site = Site {
+        bench,
+        memory,
+        store,
+        book,
+    };
+    let outcome = on_sessions(rt, d, &mut site);
+    kept(site.bench, outcome)
+}
+
+// The commands that change a session, or nothing.
+fn on_sessions(rt: &HostRuntime, d: Deed, site: &mut Site) -> Outcome {
+    match d {
+        Deed::Open(opening, sight) => opened(opening, sight, site),
+        Deed::Turn(s, steps) => site.turn(rt, s, steps),
+        Deed::Close(s) => site.close(s),
+        Deed::Step(s, steps) => pond_closer::step(site, rt, s, steps),
+        _ => seen(rt, d, site),
     }
 }
 
-fn opened(
-    d: Deed,
-    b: Bench,
-    memory: &mut [u16],
-    store: &[u8],
-    book: &mut [u8],
-    tape: &[u8],
-) -> Next {
-    match d {
-        Deed::Open(slot, words, name) => {
-            pond_bench::open(b, memory, store, book, slot, words, row(tape, name))
-        }
-        Deed::OpenFor(slot, words, name, farm) => {
-            pond_bench::open_for(b, memory, store, book, slot, words, row(tape, name), farm)
-        }
-        Deed::OpenWindow(slot, words, name, first, count) => {
-            let called = row(tape, name);
-            pond_bench::open_window(b, memory, store, book, slot, words, called, first, count)
-        }
-        _ => kept(b, Outcome::Typing),
+fn opened(o: Opening, sight: Sight, site: &mut Site) -> Outcome {
+    match sight {
+        Sight::All => site.open(o.slot, o.words, o.name),
+        Sight::Farm(farm) => site.open_for(o.slot, o.words, o.name, farm),
+        Sight::Window(first, count) => site.open_window(o.slot, o.words, o.name, first, count),
     }
 }
 
-// The commands that change nothing. The last word is the file of one that writes it.
-fn seen(
-    rt: &HostRuntime,
-    d: Deed,
-    b: Bench,
-    memory: &[u16],
-    store: &[u8],
-    book: &[u8],
-    file: &[u8],
-) -> Outcome {
+// The commands that change nothing.
+fn seen(rt: &HostRuntime, d: Deed, site: &Site) -> Outcome {
     match d {
-        Deed::Show(s) => shown(b, memory, store, book, s),
-        Deed::Words(s, p) => pond_bench::words(b, memory, book, s, wanted(p)),
-        Deed::Shared(p) => pond_bench::shared(b, memory, wanted(p)),
-        Deed::Archive => pond_archive::archive(b, memory, store),
-        Deed::Farm(farm) => pond_archive::farm(b, memory, store, farm),
-        Deed::Save(s) => pond_save::save(rt, b, memory, book, s, file),
-        Deed::Map => {
-            pond_bench::map(b, book);
-            Outcome::Done
+        Deed::Show(s) => return shown(site, s),
+        Deed::Words(s, p) => {
+            return pond_bench::words(site.bench, site.memory, site.book, s, wanted(p));
         }
-        Deed::Slots => {
-            pond_slots::slots(b, store, book);
-            Outcome::Done
+        Deed::Shared(p) => return pond_bench::shared(site.bench, site.memory, wanted(p)),
+        Deed::Archive => return pond_archive::archive(site.bench, site.memory, site.store),
+        Deed::Farm(farm) => {
+            return pond_archive::farm(site.bench, site.memory, site.store, farm);
         }
-        _ => Outcome::Typing,
+        Deed::Save(s, file) => {
+            return pond_save::save(rt, site.bench, site.memory, site.book, s, file);
+        }
+        Deed::Map => pond_bench::map(site.bench, site.book),
+        Deed::Slots => pond_slots::slots(site.bench, site.store, site.book),
+        _ => {}
     }
+    Outcome::Done
 }
 
 // The words that are wanted, where FROM and COUNT, or FROM, or none of them is given.
 fn wanted(p: Given) -> Wanted {
-    let count = p.count;
-    match count {
-        0 => Wanted::All,
-        1 => Wanted::From(p.first),
-        _ => Wanted::Part(p.first, p.second),
+    match p {
+        Given::Nothing => Wanted::All,
+        Given::One(from) => Wanted::From(from),
+        Given::Two(from, count) => Wanted::Part(from, count),
     }
 }
 
-fn shown(b: Bench, memory: &[u16], store: &[u8], book: &[u8], session: u64) -> Outcome {
-    let o = pond_bench::show(b, memory, store, book, session);
+fn shown(site: &Site, session: u64) -> Outcome {
+    let o = site.show(session);
     if pond_say::went(o) {
-        pond_closer::closer(b, memory, store, session);
+        pond_closer::closer(site, session);
     }
     o
 }

@@ -1,13 +1,16 @@
-// Why a file could not be read or written, in a plain sentence for each error's number.
-// Above it: the commands on files. Below it: how the console speaks.
-use text::line;
+// Why a file could not be read or written, and the plain sentence for it.
+// Above it: the commands on files. Below it: how the console speaks, and the system's numbers of errors.
+use pond_say::Console;
+use std::fmt;
+use std::fmt::Write;
+use std::io::{Error, ErrorKind};
 
 // The system's numbers of the errors that have a sentence.
 const EPERM: i32 = 1;
 
-pub const ENOENT: i32 = 2;
+const ENOENT: i32 = 2;
 
-pub const EIO: i32 = 5;
+const EIO: i32 = 5;
 
 const EBADF: i32 = 9;
 
@@ -19,7 +22,7 @@ const ENOTDIR: i32 = 20;
 
 const EISDIR: i32 = 21;
 
-pub const EINVAL: i32 = 22;
+const EINVAL: i32 = 22;
 
 const EFBIG: i32 = 27;
 
@@ -27,71 +30,89 @@ const ENOSPC: i32 = 28;
 
 const EROFS: i32 = 30;
 
-pub const ENAMETOOLONG: i32 = 36;
+const ENAMETOOLONG: i32 = 36;
+
+// The first are the system's; a link, and what is no file, are told apart before anything is written.
+#[derive(Clone, Copy, PartialEq, Eq)]
+pub enum Failure {
+    NoPermission,
+    NotThere,
+    Closed,
+    InTheWay,
+    NotAFolder,
+    Folder,
+    NoName,
+    DiskFull,
+    TooLarge,
+    Device,
+    ReadOnly,
+    LongName,
+    Other(i32),
+    Link,
+    NoFile,
+}
+
+// One that is not of the system is of a name that no file can have, or it stands for a failed device.
+impl From<Error> for Failure {
+    fn from(error: Error) -> Failure {
+        match error.raw_os_error() {
+            Some(number) => of_system(number),
+            None => match error.kind() {
+                ErrorKind::InvalidInput => Failure::NoName,
+                _ => Failure::Device,
+            },
+        }
+    }
+}
+
+// The system has no error 0.
+fn of_system(number: i32) -> Failure {
+    match number {
+        EPERM | EACCES => Failure::NoPermission,
+        ENOENT => Failure::NotThere,
+        EBADF => Failure::Closed,
+        EEXIST => Failure::InTheWay,
+        ENOTDIR => Failure::NotAFolder,
+        EISDIR => Failure::Folder,
+        EINVAL => Failure::NoName,
+        ENOSPC => Failure::DiskFull,
+        EFBIG => Failure::TooLarge,
+        0 | EIO => Failure::Device,
+        EROFS => Failure::ReadOnly,
+        ENAMETOOLONG => Failure::LongName,
+        other => Failure::Other(other),
+    }
+}
+
+impl fmt::Display for Failure {
+    fn fmt<W: fmt::Write>(&self, f: &mut fmt::Formatter<W>) -> fmt::Result {
+        match *self {
+            Failure::NoPermission => write!(f, "no permission"),
+            Failure::NotThere => write!(f, "no such file or folder"),
+            Failure::Closed => write!(f, "it is closed"),
+            Failure::InTheWay => write!(
+                f,
+                "the file with .pond-new behind that name is in the way, left by a run that was cut short; remove it"
+            ),
+            Failure::NotAFolder => write!(f, "a part of the name is a file and not a folder"),
+            Failure::Folder => write!(f, "it is a folder"),
+            Failure::NoName => write!(f, "the name holds a byte that no name can hold"),
+            Failure::DiskFull => write!(f, "the disk is full"),
+            Failure::TooLarge => write!(f, "it would be larger than a file may be"),
+            Failure::Device => write!(f, "the disk or the device failed"),
+            Failure::ReadOnly => write!(f, "the disk is read-only"),
+            Failure::LongName => write!(f, "the name is too long"),
+            Failure::Other(number) => write!(f, "error {number}"),
+            Failure::Link => write!(f, "it is a link; give the name of the file itself"),
+            Failure::NoFile => write!(f, "it is a device or a pipe, and only files are written"),
+        }
+    }
+}
 
 // The last line of a command that failed on a file, as `cannot read NAME: why`.
-pub fn cannot(what: &[u8], path: &[u8], error: i32) {
+pub fn cannot(what: &[u8], path: &[u8], why: Failure) {
+    let mut out = Console;
     pond_say::text(what);
     pond_say::path(path);
-    pond_say::text(b": ");
-    why(error);
-    pond_say::end();
-}
-
-// The same, of a name that nothing is written to.
-pub fn cannot_be(path: &[u8], why: &[u8]) {
-    pond_say::text(b"cannot write ");
-    pond_say::path(path);
-    pond_say::text(b": ");
-    pond_say::text(why);
-    pond_say::end();
-}
-
-fn why(error: i32) {
-    let k = known(error);
-    if k == 0 {
-        other(error);
-    }
-    pond_say::text(line(
-        b"\n\
-          no permission\n\
-          no such file or folder\n\
-          it is closed\n\
-          the file with .pond-new behind that name is in the way, left by a run that was cut short; remove it\n\
-          a part of the name is a file and not a folder\n\
-          it is a folder\n\
-          the name holds a byte that no name can hold\n\
-          the disk is full\n\
-          it would be larger than a file may be\n\
-          the disk or the device failed\n\
-          the disk is read-only\n\
-          the name is too long",
-        k,
-    ));
-}
-
-// Which line of that page has the error's sentence; line 0, which is empty, where none has.
-fn known(error: i32) -> u8 {
-    match error {
-        EPERM | EACCES => 1,
-        ENOENT => 2,
-        EBADF => 3,
-        EEXIST => 4,
-        ENOTDIR => 5,
-        EISDIR => 6,
-        EINVAL => 7,
-        ENOSPC => 8,
-        EFBIG => 9,
-        EIO => 10,
-        EROFS => 11,
-        ENAMETOOLONG => 12,
-        _ => 0,
-    }
-}
-
-fn other(error: i32) {
-    pond_say::text(b"error ");
-    if error > 0 {
-        pond_say::number(error as u64);
-    }
+    let _ = writeln!(out, ": {why}");
 }

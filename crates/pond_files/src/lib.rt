@@ -7,6 +7,6 @@ mod places;
 mod reads;
 mod writes;
 
-pub use errors::cannot;
-pub use reads::{Got, Whole, read, read_some};
+pub use errors::{Failure, cannot};
+pub use reads::{read, read_some};
 pub use writes::write;

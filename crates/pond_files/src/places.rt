@@ -1,31 +1,30 @@
 // What may be written: a name that is not taken, and a regular file; never a link, a folder, a device or a pipe. The system is asked, and the
 // answer is judged by one function.
 // Above it: the writing. Below it: `std`.
-ghost use Rattle.std.specs.Prelude.{◌≡◌, ◌&&◌, not};
+ghost use Rattle.std.specs.Prelude.{◌≡◌, ◌↔◌, false, true, Ok};
 
-use crate::errors::ENOENT;
-use crate::reads::{failure, name};
+use crate::errors::Failure;
+use crate::reads::name;
 use std::fs::{File, OpenOptions};
 use std::io::{Seek, SeekFrom};
 use std::{fs, io};
 
-// What is done about a name.
+// A name that may be written: a new one, or one of a file that is replaced.
 #[derive(Clone, Copy)]
 pub enum Place {
     New,
     Replaced,
-    Link,
-    Other,
-    Cannot(i32),
 }
 
-// A name is judged by what the system says of it: whether it is a link, with which error it is not opened (0 where it is), and whether what was opened can be cut.
-pub fn asked(rt: &HostRuntime, path: &[u8]) -> Place {
-    let link = is_link(rt, path);
-    match update(rt, path) {
-        Ok(file) => judged(link, 0, can_be_cut(&file)),
-        Err(error) => judged(link, failure(error), false),
-    }
+// A name is judged by what the system says of it: whether it is a link, why it is not opened, and whether what was opened can be cut.
+pub fn asked(rt: &HostRuntime, path: &[u8]) -> Result<Place, Failure> {
+    judged(is_link(rt, path), cuts(rt, path))
+}
+
+// Whether what the name opens can be cut.
+fn cuts(rt: &HostRuntime, path: &[u8]) -> Result<bool, Failure> {
+    let file = update(rt, path)?;
+    Ok(can_be_cut(&file))
 }
 
 // The file opened for reading and writing, its bytes as they are.
@@ -36,31 +35,19 @@ pub fn update(rt: &HostRuntime, path: &[u8]) -> io::Result<File> {
         .open(rt, name(path))
 }
 
-fn judged(link: bool, error: i32, cuts: bool) -> Place {
-    if replaced(link, error == 0, cuts) {
-        return Place::Replaced;
-    }
-    if link {
-        return Place::Link;
-    }
-    match error {
-        0 => Place::Other,
-        ENOENT => Place::New,
-        _ => Place::Cannot(error),
-    }
-}
-
 // A file is replaced only where it is no link, was opened, and is a regular file.
-fn replaced(link: bool, opened: bool, regular: bool) -> bool
-    ensures { result ≡ (not link && (opened && regular)) }
+fn judged(link: bool, regular: Result<bool, Failure>) -> Result<Place, Failure>
+    ensures { (result ≡ Ok Place.Replaced) ↔ (link ≡ false) × (regular ≡ Ok true) }
 {
     if link {
-        return false;
+        return Err(Failure::Link);
     }
-    if opened {
-        return regular;
+    match regular {
+        Ok(true) => Ok(Place::Replaced),
+        Ok(false) => Err(Failure::NoFile),
+        Err(Failure::NotThere) => Ok(Place::New),
+        Err(why) => Err(why),
     }
-    false
 }
 
 // Only a regular file can be given a length, here the one that it has.
@@ -73,20 +60,11 @@ fn can_be_cut(mut file: &File) -> bool {
 
 // Whether the name is a link. A name that is too long is none.
 fn is_link(rt: &HostRuntime, path: &[u8]) -> bool {
-    match fs::symlink_metadata(rt, name(ended(path))) {
-        Ok(found) => found.is_symlink(),
-        Err(_) => false,
-    }
+    fs::symlink_metadata(rt, name(ended(path))).is_ok_and(|found| found.is_symlink())
 }
 
 // The path as C reads it, up to a 0.
 fn ended(path: &[u8]) -> &[u8] {
-    let mut i = 0;
-    while i < path.len() {
-        if path[i] == 0 {
-            break;
-        }
-        i += 1;
-    }
-    &path[..i]
+    let end = path.iter().position(|b| *b == 0);
+    text::front(path, end.unwrap_or(path.len()))
 }

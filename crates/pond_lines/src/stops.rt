@@ -1,42 +1,40 @@
-// What follows from how a line went: whether a script stops, and with which status it ends.
+// What follows from how a line went: whether a script stops, and what is said of it.
 // Above it: the console's loop over lines. Below it: how the console speaks.
-use pond_say::Outcome;
+use pond_say::{Console, Outcome};
+use pond_words::Keep;
+use std::fmt::Write;
 
-// The line's status, and whether another line may follow.
+// How the line went for a script, and whether another line may follow.
 #[derive(Clone, Copy)]
 pub struct Went {
-    pub status: u8,
+    pub outcome: Outcome,
     pub more: bool,
 }
 
-// A person is never stopped, but where nothing can be shown any more. So many turns of the loop over lines are left.
+// A person is never stopped, but where nothing can be shown any more. The line has this number.
 pub fn settled(
     rt: &HostRuntime,
     outcome: Outcome,
     typed: bool,
-    keep: u8,
-    left: u64,
+    keep: Keep,
+    line: u64,
     more: bool,
 ) -> Went {
-    let goes_on = bounds::both(more, !pond_say::lost(rt));
+    let goes_on = more && !pond_say::lost(rt);
     if typed {
         return Went {
-            status: 0,
+            outcome: Outcome::Done,
             more: goes_on,
         };
     }
-    let o = seen(rt, outcome);
-    let status = pond_say::status(o);
-    if stops_at(o, keep) {
-        stopped(left, status);
-        return Went {
-            status,
-            more: false,
-        };
+    let outcome = seen(rt, outcome);
+    let stops = stops_at(outcome, keep);
+    if stops {
+        stopped(line, outcome);
     }
     Went {
-        status,
-        more: goes_on,
+        outcome,
+        more: goes_on && !stops,
     }
 }
 
@@ -48,36 +46,21 @@ fn seen(rt: &HostRuntime, o: Outcome) -> Outcome {
     o
 }
 
-// A script goes on after nothing (0), a fault (1) or any failure (2).
-fn stops_at(o: Outcome, keep: u8) -> bool {
+fn stops_at(o: Outcome, keep: Keep) -> bool {
     match o {
         Outcome::Done => false,
-        Outcome::Fault => keep == 0,
+        Outcome::Fault => keep == Keep::Nothing,
         Outcome::Outside => true,
-        _ => keep < 2,
+        Outcome::Refused | Outcome::Typing | Outcome::File => keep != Keep::Failures,
     }
 }
 
 // `stopped at line 3 with status 2: no line after it was followed`
-fn stopped(left: u64, status: u8) {
-    pond_say::text(b"stopped at line ");
-    pond_say::number(line(left));
-    pond_say::text(b" with status ");
-    pond_say::number(status as u64);
-    pond_say::text(b": no line after it was followed\n");
-}
-
-// The line's number: the loop over lines counts down from the largest number.
-fn line(left: u64) -> u64 {
-    if left == 0 {
-        return u64::MAX;
-    }
-    u64::MAX - left + 1
-}
-
-pub fn worse(a: u8, b: u8) -> u8 {
-    if a < b {
-        return b;
-    }
-    a
+fn stopped(line: u64, o: Outcome) {
+    let mut out = Console;
+    let status = pond_say::status(o);
+    let _ = writeln!(
+        out,
+        "stopped at line {line} with status {status}: no line after it was followed"
+    );
 }

@@ -3,7 +3,7 @@
 // Above it: show and run. Below it: `depth`, which has the numbers and what they mean, and phrases.
 use crate::told;
 use machine::Kind;
-use pond_phrases::{piece, say};
+use pond_phrases::say;
 use sound::{Bench, Session};
 
 // The fault of a full stack.
@@ -11,71 +11,48 @@ const FULL: u8 = 4;
 
 // Two lines. After a fault 4 nothing is told: the stack was to go lower, and the lowest stack pointer does not say how far.
 pub fn deepest(b: Bench, store: &[u8], se: Session) {
-    let cpu = se.cpu;
-    let kind = cpu.kind;
-    if let Kind::Faulted(number, _) = kind {
-        if number == FULL {
-            return;
-        }
+    if let Kind::Faulted(FULL, _) = se.cpu.kind {
+        return;
     }
-    let regs = cpu.regs;
+    let lowest = se.cpu.regs.lowest;
     let floor = segment::floor(told::code(b, store, se.slot)) as usize;
-    reached(floor, se.len, regs.lowest);
-    enough(se.len, depth::enough(floor, se.len, regs.lowest));
+    reached(floor, se.len, lowest);
+    enough(se.len, depth::enough(floor, se.len, lowest));
 }
 
 // `  lowest stack pointer 29: the stack never reached words 11 to 28, 18 words`
 fn reached(floor: usize, len: usize, lowest: usize) {
     let n = depth::unreached(floor, lowest);
-    let row = b"the stack has reached every word down to the globals|\
-          the stack never reached word #|\
-          the stack never reached words # to #, # words|\
-          the region has no words for a stack|\
-          the stack has not been used, so it never reached word #|\
-          the stack has not been used, so it never reached words # to #, # words";
-    say(b"  lowest stack pointer #: ", lowest as u64, 0, 0);
+    say(b"  lowest stack pointer #: ", &[lowest as u64]);
     say(
-        piece(row, how_many(n) as usize + unused(len, lowest) as usize),
-        floor as u64,
-        told::last(floor, n) as u64,
-        n as u64,
+        rest(lowest < len, n),
+        &[floor as u64, told::last(floor, n) as u64, n as u64],
     );
     pond_say::end();
 }
 
-// Which of three sentences: of none, of one, of more.
-fn how_many(n: usize) -> u8 {
-    match n {
-        0 => 0,
-        1 => 1,
-        _ => 2,
+// What the stack left of its words: none, one, or more; it may never have been used.
+fn rest(used: bool, unreached: usize) -> &'static [u8] {
+    match (used, unreached) {
+        (true, 0) => b"the stack has reached every word down to the globals",
+        (true, 1) => b"the stack never reached word #",
+        (true, _) => b"the stack never reached words # to #, # words",
+        (false, 0) => b"the region has no words for a stack",
+        (false, 1) => b"the stack has not been used, so it never reached word #",
+        (false, _) => b"the stack has not been used, so it never reached words # to #, # words",
     }
-}
-
-// The sentences of a stack that was never used stand behind the others.
-fn unused(len: usize, lowest: usize) -> u8 {
-    if lowest < len {
-        return 0;
-    }
-    3
 }
 
 // `  enough for the stack so far: a region of 16 words, the least there is`
 fn enough(len: usize, words: usize) {
-    let row = b"a region of # words|\
-          a region of # words, the least there is|\
-          no less than this region of # words";
+    let phrase: &[u8] = if words == depth::LEAST {
+        b"a region of # words, the least there is"
+    } else if words < len {
+        b"a region of # words"
+    } else {
+        b"no less than this region of # words"
+    };
     pond_say::text(b"  enough for the stack so far: ");
-    say(piece(row, which(len, words)), words as u64, 0, 0);
+    say(phrase, &[words as u64]);
     pond_say::end();
-}
-
-fn which(len: usize, words: usize) -> usize {
-    if words == depth::LEAST {
-        return 1;
-    }
-    if words < len {
-        return 0;
-    }
-    2
 }

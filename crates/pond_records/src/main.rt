@@ -57,8 +57,7 @@ fn told(b: Bench, memory: &[u16], store: &[u8], number: u8, place: usize) {
 fn all_shared() -> Seen {
     Seen {
         view: View::All,
-        first: 0,
-        len: 4,
+        window: Window { first: 0, len: 4 },
     }
 }
 

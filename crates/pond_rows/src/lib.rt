@@ -1,13 +1,13 @@
 // Rows of bytes: what the console keeps by number, the words of a command on its tape, and in its book the names of sessions and slots, the
-// files of the slots, and what the sessions were opened for. A row has 4,098 bytes: two for its length, least byte first, and as many as the longest word has.
-// Above it: the console's commands. Below it: `bounds`. Every function takes any rows and any numbers.
+// files of the slots, and what the sessions were opened for. A row has as many bytes as the longest word.
+// Above it: the console's commands. Below it: nothing. Every function takes any rows and any numbers.
 #![tactic(auto)]
 
 mod kept;
 mod names;
 mod views;
 
-pub use kept::{empty, put, row};
+pub use kept::{Bytes, empty, put, row};
 pub use names::{
     book, file_of, file_row, find, session_name, session_row, slot_name, slot_row, tape, view_row,
 };

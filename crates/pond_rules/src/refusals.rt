@@ -1,53 +1,40 @@
 // The refusals of document 01: for each number one plain sentence that names the rule which was broken.
 // Above it: every command that can be refused. Below it: how the console speaks.
-ghost use Rattle.std.specs.Prelude.{◌≡◌, Bool, ◌&&◌, leb};
-
 use pond_say::Outcome;
+use segment::Refusal;
 use text::line;
 
 // The last line of a command that was refused: `refused N at P: rule`.
-pub fn refused(number: u8, place: u16) -> Outcome {
-    begun(number, place);
+pub fn refused(refusal: Refusal) -> Outcome {
+    begun(refusal);
     pond_say::end();
     Outcome::Refused
 }
 
 // The same without its end, for a command that says more of it.
-pub fn begun(number: u8, place: u16) {
+pub fn begun(refusal: Refusal) {
     pond_say::text(b"refused ");
-    pond_say::number(number as u64);
+    pond_say::number(refusal.number() as u64);
     pond_say::text(b" at ");
-    if of_routine(number) {
+    if let Refusal::Entry(_) | Refusal::Datasize(_) | Refusal::Exitic(_) = refusal {
         pond_say::text(b"routine ");
     }
-    pond_say::number(place as u64);
+    pond_say::number(refusal.place() as u64);
     pond_say::text(b": ");
-    rule(number);
+    rule(refusal);
 }
 
-// The place of 6 to 8 is the routine's number.
-fn of_routine(number: u8) -> bool
-    ensures { result ≡ (leb 6 number && leb number 8) }
-{
-    if number < 6 {
-        return false;
-    }
-    number <= 8
-}
-
-// Which line of the page has the sentence, from line 0 up; line 0 is for every number that has none.
-fn page_line(number: u8) -> u8 {
-    match number {
-        1..=17 => number,
-        23 => 18,
-        _ => 0,
+// Which line of the page has the sentence, from line 0 up.
+fn page_line(refusal: Refusal) -> u8 {
+    match refusal {
+        Refusal::NotArchive => 17,
+        _ => refusal.number() - 1,
     }
 }
 
-fn rule(number: u8) {
+fn rule(refusal: Refusal) {
     pond_say::text(line(
-        b"a number that the documents do not have\n\
-          a segment has an even number of bytes, and 16 to 32767 words\n\
+        b"a segment has an even number of bytes, and 16 to 32767 words\n\
           bytes 12 and 13 say the byte sex: 01 00 is least byte first, 00 01 most byte first\n\
           the relocation pointer, word 1, must be 0\n\
           the pool pointer, word 7, must be 0 or a word of the segment from word 11 on, and the pool's first word 0 or a pointer inside the pool\n\
@@ -65,6 +52,6 @@ fn rule(number: u8) {
           a turn has at most 65535 steps\n\
           a segment must begin at an even byte and lie inside the store; a bench has at most 1048576 words, at most 32768 of them shared, and no more than there are\n\
           the shared words must be records of four words each, and farm numbers may never fall from one record to the next",
-        page_line(number),
+        page_line(refusal),
     ));
 }

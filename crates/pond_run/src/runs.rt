@@ -1,13 +1,13 @@
 // `run FILE [WORDS [STEPS]] [with ARCHIVE [for FARM]]`: a segment on a bench of its own, to its end; how it ended, and its words.
 // Above it: the console. Below it: the other commands, as they are.
-use pond_bench::turns;
-use pond_files::Whole;
-use pond_look::{Next, Wanted, told};
+use machine::Kind;
+use pond_bench::Site;
+use pond_look::{Wanted, told};
 use pond_rows::View;
 use pond_say::Outcome;
 use pond_slots::{fills, loads};
 use pond_why::faults;
-use sound::{Bench, Session};
+use sound::Bench;
 use text::front;
 
 // The words and the steps of a run of which nothing else is said.
@@ -26,14 +26,56 @@ pub enum Size {
     Both(u64, u64),
 }
 
+impl Size {
+    // How many words: if it is not said, room for the globals, the mark and 250 words of stack at least.
+    fn words(self, seg: &[u8]) -> usize {
+        match self {
+            Size::Usual => {
+                let first = segment::routine_of(seg, 1);
+                (256 + first.datasize as usize).clamp(WORDS, MOST)
+            }
+            Size::Words(words) | Size::Both(words, _) => words as usize,
+        }
+    }
+
+    fn steps(self) -> u64 {
+        match self {
+            Size::Both(_, steps) => steps,
+            _ => STEPS,
+        }
+    }
+}
+
+// What is run: the segment and its file, the bytes of the shared words and the archive's file, and what the report sees of them.
+#[derive(Clone, Copy)]
+struct Report<'a> {
+    file: &'a [u8],
+    seg: &'a [u8],
+    archive: &'a [u8],
+    shared: &'a [u8],
+    view: View,
+    size: Size,
+}
+
 // An archive is a file of shared words, two bytes a word, and for a farm a text file of records; where its name has no bytes, there are none.
 pub fn run(rt: &HostRuntime, file: &[u8], size: Size, archive: &[u8], view: View) -> Outcome {
     let mut store = io::large_buffer();
-    let got = pond_files::read(rt, file, &mut store);
-    if !got.ok {
+    let Some(seg) = pond_files::read(rt, file, &mut store) else {
         return Outcome::File;
-    }
-    with(rt, file, front(&store, got.count), size, archive, view)
+    };
+    let mut room = space();
+    let Some(shared) = bytes_of(rt, archive, &mut room, view) else {
+        return Outcome::File;
+    };
+    let report = Report {
+        file,
+        seg,
+        archive,
+        shared,
+        view,
+        size,
+    };
+    report.alone(rt)
 }
 
 // One byte more than the most shared words take, so that a longer file is told from it.
@@ -41,77 +83,20 @@ fn space() -> [u8; 65538] {
     [0u8; 65538]
 }
 
-fn with(
+// The bytes of the archive's words: those of the file, or those of its records; and none where there is no archive.
+fn bytes_of<'a>(
     rt: &HostRuntime,
-    file: &[u8],
-    seg: &[u8],
-    size: Size,
     archive: &[u8],
+    room: &'a mut [u8],
     view: View,
-) -> Outcome {
+) -> Option<&'a [u8]> {
     if archive.len() == 0 {
-        return sized(rt, file, seg, size, archive, b"", view);
+        return Some(b"");
     }
-    let mut room = space();
-    let got = bytes_of(rt, archive, &mut room, view);
-    if !got.ok {
-        return Outcome::File;
-    }
-    sized(rt, file, seg, size, archive, front(&room, got.count), view)
-}
-
-// The bytes of the archive's words: those of the file, or those of its records.
-fn bytes_of(rt: &HostRuntime, archive: &[u8], room: &mut [u8], view: View) -> Whole {
     if let View::Farm(_) = view {
-        let s = pond_archive::read(rt, archive, room);
-        return Whole {
-            ok: s.ok,
-            count: pond_archive::eight(s.count),
-        };
+        return pond_archive::read(rt, archive, room);
     }
     pond_files::read(rt, archive, room)
-}
-
-fn sized(
-    rt: &HostRuntime,
-    file: &[u8],
-    seg: &[u8],
-    size: Size,
-    archive: &[u8],
-    bytes: &[u8],
-    view: View,
-) -> Outcome {
-    match size {
-        Size::Usual => alone(rt, file, seg, usual(seg), STEPS, archive, bytes, view),
-        Size::Words(words) => alone(rt, file, seg, words as usize, STEPS, archive, bytes, view),
-        Size::Both(words, steps) => alone(
-            rt,
-            file,
-            seg,
-            words as usize,
-            steps,
-            archive,
-            bytes,
-            view,
-        ),
-    }
-}
-
-// Room for the globals, the mark and 250 words of stack at least.
-fn usual(seg: &[u8]) -> usize {
-    let first = segment::routine_of(seg, 1);
-    let need = 256 + first.datasize as usize;
-    if need < WORDS {
-        return WORDS;
-    }
-    at_most(need)
-}
-
-fn at_most(words: usize) -> usize {
-    if MOST < words {
-        return MOST;
-    }
-    words
 }
 
 // Every word that a bench of one session and its archive can have.
@@ -119,168 +104,72 @@ fn memory_of_most() -> [u16; 65536] {
     [0u16; 65536]
 }
 
-// A bench of the archive's words and so many more, as far as a session can have them: opening refuses more.
-fn alone(
-    rt: &HostRuntime,
-    file: &[u8],
-    seg: &[u8],
-    words: usize,
-    steps: u64,
-    archive: &[u8],
-    bytes: &[u8],
-    view: View,
-) -> Outcome {
-    let mut memory = memory_of_most();
-    let s = at_most(bytes.len() / 2);
-    let n = told::past(s, at_most(words));
-    let out = bench::new_bench(n, s);
-    if n <= 65536 {
-        return filled(
-            rt,
-            out.bench,
-            &mut memory[0..n],
-            file,
-            seg,
-            words,
-            steps,
-            archive,
-            bytes,
-            view,
+impl Report<'_> {
+    // A bench of the archive's words and so many more, as far as a session can have them: opening refuses more.
+    fn alone(self, rt: &HostRuntime) -> Outcome {
+        let mut words = memory_of_most();
+        let mut book = pond_rows::book();
+        let s = (self.shared.len() / 2).min(MOST);
+        let n = s + self.size.words(self.seg).min(MOST);
+        let memory = &mut words[..n];
+        let made = bench::new_bench(n, s);
+        let o = self.poured(made.bench, memory);
+        if !pond_say::went(o) {
+            return o;
+        }
+        let len = self.seg.len();
+        let loaded = loads::asked(
+            made.bench, memory, self.seg, &mut book, b"", self.file, 0, 0, len,
         );
+        if !pond_say::went(loaded.outcome) {
+            return loaded.outcome;
+        }
+        let mut site = Site {
+            bench: loaded.bench,
+            memory,
+            store: self.seg,
+            book: &mut book,
+        };
+        self.ran(rt, &mut site)
     }
-    Outcome::Done
-}
 
-fn filled(
-    rt: &HostRuntime,
-    b: Bench,
-    memory: &mut [u16],
-    file: &[u8],
-    seg: &[u8],
-    words: usize,
-    steps: u64,
-    archive: &[u8],
-    bytes: &[u8],
-    view: View,
-) -> Outcome {
-    let o = poured(b, memory, archive, bytes, view);
-    if pond_say::went(o) {
-        return booked(rt, b, memory, file, seg, words, steps, view);
+    fn poured(self, b: Bench, memory: &mut [u16]) -> Outcome {
+        if let View::Farm(_) = self.view {
+            fills::from_records(memory, self.archive, self.shared);
+            return Outcome::Done;
+        }
+        if self.archive.len() > 0 {
+            return fills::from_bytes(b, memory, self.archive, self.shared);
+        }
+        Outcome::Done
     }
-    o
-}
 
-fn poured(b: Bench, memory: &mut [u16], archive: &[u8], bytes: &[u8], view: View) -> Outcome {
-    if let View::Farm(_) = view {
-        fills::from_records(memory, archive, bytes);
-        return Outcome::Done;
+    fn ran(self, rt: &HostRuntime, site: &mut Site) -> Outcome {
+        let words = self.size.words(self.seg) as u64;
+        let o = match self.view {
+            View::Farm(farm) => site.open_for(0, words, b"", farm),
+            _ => site.open(0, words, b""),
+        };
+        if !pond_say::went(o) {
+            return o;
+        }
+        let steps = site.turns(rt, 0, self.size.steps());
+        let o = ended(site, steps);
+        pond_bench::stopped(rt, o)
     }
-    if archive.len() > 0 {
-        return fills::from_bytes(b, memory, archive, bytes);
-    }
-    Outcome::Done
-}
-
-fn booked(
-    rt: &HostRuntime,
-    b: Bench,
-    memory: &mut [u16],
-    file: &[u8],
-    seg: &[u8],
-    words: usize,
-    steps: u64,
-    view: View,
-) -> Outcome {
-    let mut book = pond_rows::book();
-    loaded(rt, b, memory, &mut book, file, seg, words, steps, view)
-}
-
-fn loaded(
-    rt: &HostRuntime,
-    b: Bench,
-    memory: &mut [u16],
-    book: &mut [u8],
-    file: &[u8],
-    seg: &[u8],
-    words: usize,
-    steps: u64,
-    view: View,
-) -> Outcome {
-    let after = loads::asked(b, memory, seg, book, b"", file, 0, 0, seg.len());
-    let o = after.outcome;
-    if pond_say::went(o) {
-        return opened(rt, after.bench, memory, book, seg, words, steps, view);
-    }
-    o
-}
-
-fn opened(
-    rt: &HostRuntime,
-    b: Bench,
-    memory: &mut [u16],
-    book: &mut [u8],
-    seg: &[u8],
-    words: usize,
-    steps: u64,
-    view: View,
-) -> Outcome {
-    let after = asked(b, memory, book, seg, words as u64, view);
-    let o = after.outcome;
-    if pond_say::went(o) {
-        return went(rt, after.bench, memory, book, seg, steps);
-    }
-    o
-}
-
-fn asked(
-    b: Bench,
-    memory: &mut [u16],
-    book: &mut [u8],
-    seg: &[u8],
-    words: u64,
-    view: View,
-) -> Next {
-    if let View::Farm(farm) = view {
-        return pond_bench::open_for(b, memory, seg, book, 0, words, b"", farm);
-    }
-    pond_bench::open(b, memory, seg, book, 0, words, b"")
-}
-
-fn went(
-    rt: &HostRuntime,
-    b: Bench,
-    memory: &mut [u16],
-    book: &[u8],
-    seg: &[u8],
-    steps: u64,
-) -> Outcome {
-    let all = turns::all(rt, b, memory, seg, 0, steps);
-    ended(rt, all.bench, memory, book, seg, all.steps)
 }
 
 // How it ended, how deep its stack went, and its words; the fault's line is the last one.
-fn ended(
-    rt: &HostRuntime,
-    b: Bench,
-    memory: &[u16],
-    book: &[u8],
-    seg: &[u8],
-    steps: u64,
-) -> Outcome {
-    let se = told::record(b, 0);
-    turns::ended(book, 0, steps, se);
-    faults::instruction(b, seg, se);
-    pond_look::deepest(b, seg, se);
-    pond_look::words(b, memory, book, 0, Wanted::All);
-    let o = faults::reason(b, memory, seg, se, pond_windows::seen_by(book, se, 0));
-    turns::stopped(rt, finished(o, se))
-}
-
-// A report that is still ready has done all its steps, and has not finished.
-fn finished(o: Outcome, se: Session) -> Outcome {
-    let cpu = se.cpu;
-    let kind = cpu.kind;
-    if let machine::Kind::Ready = kind {
+fn ended(site: &Site, steps: u64) -> Outcome {
+    let se = told::record(site.bench, 0);
+    site.ended(0, steps);
+    faults::instruction(site.bench, site.store, se);
+    pond_look::deepest(site.bench, site.store, se);
+    pond_look::words(site.bench, site.memory, site.book, 0, Wanted::All);
+    let seen = pond_windows::seen_by(site.book, se, 0);
+    let o = faults::reason(site.bench, site.memory, site.store, se, seen);
+    // a report that is still ready has done all its steps, and has not finished
+    if let Kind::Ready = se.cpu.kind {
         pond_say::text(b"not finished: all its steps are done; run it with more\n");
         return Outcome::Fault;
     }

@@ -9,6 +9,8 @@ mod outcomes;
 
 pub use marks::{forget, interrupted, leave, lost};
 pub use outcomes::{Outcome, status, went};
+use std::fmt;
+use std::fmt::Write;
 use text::front;
 
 // The descriptor of standard output.
@@ -22,41 +24,30 @@ const PATH: u8 = 255;
 // What cannot be written, as on a full disk, is a file that cannot be written: status 3.
 pub fn text(bytes: &[u8]) {
     if !io::write_all(STDOUT, bytes) {
-        marks::leave(3);
+        marks::leave(Outcome::File);
+    }
+}
+
+// What a format writes to: each piece of it goes out as text does.
+#[derive(Clone, Copy)]
+pub struct Console;
+
+impl fmt::Write for Console {
+    fn write_str(&mut self, s: &str) -> fmt::Result {
+        text(s.as_bytes());
+        Ok(())
     }
 }
 
 pub fn number(n: u64) {
-    let mut digits = [0u8; 20];
-    let k = io::decimal(n, &mut digits);
-    text(&digits[..k]);
+    let mut out = Console;
+    let _ = write!(out, "{n}");
 }
 
 // In hexadecimal with capital letters, as the papers print bytes, and zeros in front up to width digits.
 pub fn hex(n: u64, width: usize) {
-    let mut digits = [0u8; 16];
-    let k = io::hex(n, width, &mut digits);
-    capitals(&digits[..k]);
-}
-
-fn capitals(bytes: &[u8]) {
-    let mut i = 0;
-    while i < bytes.len() {
-        letter(bytes[i]);
-        i += 1;
-    }
-}
-
-fn letter(b: u8) {
-    let one = [capital(b)];
-    text(&one);
-}
-
-fn capital(b: u8) -> u8 {
-    if b < b'a' {
-        return b;
-    }
-    b - 32
+    let mut out = Console;
+    let _ = write!(out, "{n:0width$X}");
 }
 
 pub fn end() {
@@ -82,51 +73,26 @@ fn shown(bytes: &[u8], top: u8) {
 
 // A word as a number in two's complement.
 pub fn signed(w: u16) {
-    if w < 32768 {
-        number(w as u64);
-    } else {
-        text(b"-");
-        number(65536 - w as u64);
-    }
+    let mut out = Console;
+    let n = w.cast_signed();
+    let _ = write!(out, "{n}");
 }
 
-// A word as a number in two's complement, at the right end of a column of at most 20 characters.
-pub fn signed_padded(w: u16, width: usize) {
-    if w < 32768 {
-        padded(w as u64, width);
-        return;
-    }
-    let n = 65536 - w as u64;
-    right(1 + digits(n), width);
-    text(b"-");
-    number(n);
-}
-
-// Two numbers with a dash between them, at the right end of a column of at most 20 characters.
+// Two numbers with a dash between them, at the right end of a column.
 pub fn range_padded(from: u64, to: u64, width: usize) {
-    right(1 + digits(from) + digits(to), width);
-    number(from);
+    padded(from, width.saturating_sub(1 + digits(to)));
     text(b"-");
     number(to);
-}
-
-// Blanks in front of n characters, up to width.
-fn right(n: usize, width: usize) {
-    if n < width {
-        blanks(width - n);
-    }
 }
 
 // How many digits a number has.
 fn digits(n: u64) -> usize
     ensures { result ≤ 20 }
 {
-    let mut room = [0u8; 20];
-    let k = io::decimal(n, &mut room);
-    if 20 < k {
-        return 20;
+    match n.checked_ilog10() {
+        Some(power) => 1 + power as usize,
+        None => 1,
     }
-    k
 }
 
 // At most 20 blanks.
@@ -134,12 +100,8 @@ pub fn blanks(n: usize) {
     text(front(b"                    ", n));
 }
 
-// A number at the right end of a column of at most 20 characters; it is wider where its digits are.
+// A number at the right end of a column; it is wider where its digits are.
 pub fn padded(n: u64, width: usize) {
-    let mut digits = [0u8; 20];
-    let k = io::decimal(n, &mut digits);
-    if k < width {
-        blanks(width - k);
-    }
-    text(&digits[..k]);
+    let mut out = Console;
+    let _ = write!(out, "{n:>width$}");
 }

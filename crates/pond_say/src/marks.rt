@@ -1,6 +1,7 @@
 // What passes between the program and its wrapper, bin/pond, in two files that the wrapper lends: the status in one, and in the other the
 // mark that Ctrl-C was pressed. Where nothing is lent, as at the gate, each call fails and nothing happens.
 // Above it: the console, long turns, and what is said. Below it: `std` and `io`.
+use crate::outcomes::{Outcome, status};
 use std::fs;
 use std::fs::OpenOptions;
 
@@ -12,18 +13,10 @@ const STATUS_FILE: &str = "/proc/self/fd/9";
 
 const CTRL_C_FILE: &str = "/proc/self/fd/8";
 
-// Leaves a status for the wrapper, which takes the highest that it finds.
-pub fn leave(status: u8) {
-    let one = [digit(status)];
+// Leaves the status for the wrapper, which takes the highest that it finds.
+pub fn leave(o: Outcome) {
+    let one = [b'0' + status(o)];
     io::write_all(STATUS, &one);
-}
-
-// No status is above 4.
-fn digit(status: u8) -> u8 {
-    if 4 < status {
-        return b'4';
-    }
-    b'0' + status
 }
 
 // Whether something was left before the end: then standard output could not be written.
@@ -47,8 +40,5 @@ pub fn forget(rt: &HostRuntime) {
 
 // Whether the lent file has a byte. What is lent and is no file has none.
 fn marked(rt: &HostRuntime, file: &str) -> bool {
-    match fs::metadata(rt, file) {
-        Ok(lent) => lent.is_file() && lent.len() > 0,
-        Err(_) => false,
-    }
+    fs::metadata(rt, file).is_ok_and(|lent| lent.is_file() && lent.len() > 0)
 }

@@ -1,27 +1,26 @@
 // `check FILE`: the header numbers and routines of a segment, or why it is refused.
 // Above it: the console. Below it: `segment`, which judges, and how the console speaks.
-use pond_say::Outcome;
-use segment::{Segment, Verdict};
-use text::front;
+use pond_say::{Console, Outcome};
+use segment::Segment;
+use std::fmt::Write;
 
 // A segment has at most 32,767 words.
 const LONGEST: usize = 65534;
 
 pub fn check(rt: &HostRuntime, file: &[u8]) -> Outcome {
     let mut room = io::large_buffer();
-    let got = pond_files::read(rt, file, &mut room);
-    if !got.ok {
+    let Some(seg) = pond_files::read(rt, file, &mut room) else {
         return Outcome::File;
-    }
-    report(file, front(&room, got.count))
+    };
+    report(file, seg)
 }
 
 fn report(file: &[u8], seg: &[u8]) -> Outcome {
     size(file, seg.len());
     let v = checks::judge(seg);
     match v {
-        Verdict::Accepted => passed(seg),
-        Verdict::Refused { number, place } => pond_rules::refused(number, place),
+        Ok(()) => passed(seg),
+        Err(refusal) => pond_rules::refused(refusal),
     }
 }
 
@@ -39,15 +38,9 @@ pub fn size(file: &[u8], bytes: usize) {
 }
 
 fn measure(bytes: usize) {
-    pond_say::text(b": ");
-    pond_say::number(bytes as u64);
-    pond_say::text(b" bytes, ");
-    pond_say::number((bytes / 2) as u64);
-    if bytes % 2 == 0 {
-        pond_say::text(b" words\n");
-    } else {
-        pond_say::text(b" words and a half\n");
-    }
+    let mut out = Console;
+    let half = if bytes % 2 == 0 { "" } else { " and a half" };
+    let _ = writeln!(out, ": {bytes} bytes, {} words{half}", bytes / 2);
 }
 
 fn passed(seg: &[u8]) -> Outcome {
@@ -69,12 +62,12 @@ fn name(seg: &[u8]) {
 fn header(h: Segment) {
     pond_say::text(b"  byte sex            ");
     sex(h.least);
-    field(b"  dictionary pointer  ", h.dict);
-    field(b"  relocation pointer  ", h.reloc);
-    field(b"  pool pointer        ", h.pool);
+    field("dictionary pointer", h.dict);
+    field("relocation pointer", h.reloc);
+    field("pool pointer", h.pool);
     pools(h);
-    field(b"  real size           ", h.real);
-    field(b"  routines            ", h.count);
+    field("real size", h.real);
+    field("routines", h.count);
 }
 
 // The words of the constant pool, which ends with the segment, and of the real pool at its end.
@@ -83,28 +76,23 @@ fn pools(h: Segment) {
         pond_say::text(b"  constant pool       none\n");
         return;
     }
-    words(b"  constant pool       word", h.pool as usize, h.words);
+    words("constant pool", usize::from(h.pool), h.words);
     if h.reals < h.words {
-        words(b"  real pool           word", h.reals, h.words);
+        words("real pool", h.reals, h.words);
     } else {
         pond_say::text(b"  real pool           none\n");
     }
 }
 
 // The words from one on and before another, at least one.
-fn words(label: &[u8], first: usize, end: usize) {
-    pond_say::text(label);
-    if first < end {
-        if first < end - 1 {
-            pond_say::text(b"s ");
-            pond_say::number(first as u64);
-            pond_say::text(b" to ");
-        } else {
-            pond_say::text(b" ");
-        }
-        pond_say::number((end - 1) as u64);
+fn words(label: &str, first: usize, end: usize) {
+    let mut out = Console;
+    let last = end.saturating_sub(1);
+    if first < last {
+        let _ = writeln!(out, "  {label:<20}words {first} to {last}");
+    } else {
+        let _ = writeln!(out, "  {label:<20}word {last}");
     }
-    pond_say::end();
 }
 
 // The byte sex in words.
@@ -116,31 +104,28 @@ pub fn sex(least: bool) {
     }
 }
 
-fn field(label: &[u8], n: u16) {
-    pond_say::text(label);
-    pond_say::number(n as u64);
-    pond_say::end();
+fn field(label: &str, n: u16) {
+    let mut out = Console;
+    let _ = writeln!(out, "  {label:<20}{n}");
 }
 
 fn table(seg: &[u8], count: u16) {
     pond_say::text(b"  routine  entry word  first byte  DATASIZE  EXITIC\n");
-    let mut k = 0;
-    while k < count {
-        k += 1;
+    for k in 1..=count {
         row(seg, k);
     }
 }
 
 fn row(seg: &[u8], k: u16) {
+    let mut out = Console;
     let r = segment::routine_of(seg, k);
-    pond_say::padded(k as u64, 9);
     if r.entry == 0 {
-        pond_say::text(b"  declared, not linked\n");
+        let _ = writeln!(out, "{k:>9}  declared, not linked");
         return;
     }
-    pond_say::padded(r.entry as u64, 12);
-    pond_say::padded(r.start as u64, 12);
-    pond_say::padded(r.datasize as u64, 10);
-    pond_say::padded(r.exitic as u64, 8);
-    pond_say::end();
+    let _ = writeln!(
+        out,
+        "{k:>9}{:>12}{:>12}{:>10}{:>8}",
+        r.entry, r.start, r.datasize, r.exitic
+    );
 }

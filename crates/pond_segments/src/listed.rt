@@ -2,28 +2,25 @@
 // Above it: the console. Below it: the listing, and the verdict on a segment.
 use crate::checked;
 use pond_say::Outcome;
-use segment::Verdict;
-use text::front;
 
 pub fn list(rt: &HostRuntime, file: &[u8]) -> Outcome {
     let mut room = io::large_buffer();
-    let got = pond_files::read(rt, file, &mut room);
-    if !got.ok {
+    let Some(seg) = pond_files::read(rt, file, &mut room) else {
         return Outcome::File;
-    }
-    listed(file, front(&room, got.count))
+    };
+    listed(file, seg)
 }
 
 fn listed(file: &[u8], seg: &[u8]) -> Outcome {
     let v = checks::judge(seg);
     match v {
-        Verdict::Accepted => {
+        Ok(()) => {
             listing::listing(seg);
             Outcome::Done
         }
-        Verdict::Refused { number, place } => {
+        Err(refusal) => {
             checked::size(file, seg.len());
-            pond_rules::refused(number, place)
+            pond_rules::refused(refusal)
         }
     }
 }

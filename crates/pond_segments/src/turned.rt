@@ -1,27 +1,26 @@
 // `turn FILE OUT`: a segment with the other byte sex.
 // Above it: the console. Below it: `turning`, which turns or refuses, and how the console speaks.
 use crate::checked;
-use pond_say::Outcome;
-use segment::Verdict;
+use pond_say::{Console, Outcome};
+use std::fmt::Write;
 use text::front;
 
 pub fn turn(rt: &HostRuntime, file: &[u8], out: &[u8]) -> Outcome {
     let mut room = io::large_buffer();
-    let got = pond_files::read(rt, file, &mut room);
-    if !got.ok {
+    let Some(seg) = pond_files::read(rt, file, &mut room) else {
         return Outcome::File;
-    }
-    turned(rt, file, front(&room, got.count), out)
+    };
+    turned(rt, file, seg, out)
 }
 
 fn turned(rt: &HostRuntime, file: &[u8], seg: &[u8], out: &[u8]) -> Outcome {
     let mut room = io::large_buffer();
     let v = turning::turn(seg, &mut room);
     match v {
-        Verdict::Accepted => written(rt, front(&room, seg.len()), out),
-        Verdict::Refused { number, place } => {
+        Ok(()) => written(rt, front(&room, seg.len()), out),
+        Err(refusal) => {
             checked::size(file, seg.len());
-            pond_rules::refused(number, place)
+            pond_rules::refused(refusal)
         }
     }
 }
@@ -38,8 +37,7 @@ fn written(rt: &HostRuntime, seg: &[u8], out: &[u8]) -> Outcome {
 fn told(out: &[u8], bytes: usize, least: bool) {
     pond_say::text(b"written ");
     pond_say::path(out);
-    pond_say::text(b": ");
-    pond_say::number(bytes as u64);
-    pond_say::text(b" bytes, ");
+    let mut console = Console;
+    let _ = write!(console, ": {bytes} bytes, ");
     checked::sex(least);
 }

@@ -9,4 +9,4 @@ mod complaints;
 mod fields;
 mod lines;
 
-pub use lines::{Sheet, read};
+pub use lines::read;

@@ -1,11 +1,10 @@
 // `load SLOT FILE`: a segment from a file into a slot; and `slots`, what is loaded.
 // Above it: the console, and run. Below it: the bench and files.
-use bench::Answer;
-use pond_files::Whole;
 use pond_look::{Next, refusals, told};
-use pond_phrases::{begun, say};
+use pond_phrases::say;
+use pond_rows::Bytes;
 use pond_say::Outcome;
-use sound::{Bench, Slot};
+use sound::Bench;
 
 // The bytes of the store that are for one slot: one more word than the longest segment has, so that a longer file is told from it.
 const AREA: usize = 65536;
@@ -16,27 +15,25 @@ pub fn load(
     b: Bench,
     memory: &[u16],
     store: &mut [u8],
-    book: &mut [u8],
+    book: &mut [Bytes],
     slot: u64,
     name: &[u8],
     file: &[u8],
 ) -> Next {
     let i = slot as usize;
     let start = area(i);
-    let got = read(rt, store, file, start, free(b, i));
-    if !got.ok {
+    let Some(len) = read(rt, store, file, start, free(b, i)) else {
         return Next {
             bench: b,
             outcome: Outcome::File,
         };
-    }
-    asked(b, memory, store, book, name, file, i, start, got.count)
+    };
+    asked(b, memory, store, book, name, file, i, start, len)
 }
 
 // Whether there is such a slot, and it is not loaded.
 fn free(b: Bench, i: usize) -> bool {
-    let sl = told::slot(b, i);
-    bounds::both(i < 16, !sl.loaded)
+    i < 16 && !told::slot(b, i).loaded
 }
 
 // A segment under a name, into the lowest slot that is not loaded.
@@ -45,33 +42,18 @@ pub fn load_named(
     b: Bench,
     memory: &[u16],
     store: &mut [u8],
-    book: &mut [u8],
+    book: &mut [Bytes],
     name: &[u8],
     file: &[u8],
 ) -> Next {
-    let all = b.slots;
-    let i = lowest(all);
-    if 15 < i {
+    let Some(i) = b.slots.iter().position(|sl| !sl.loaded) else {
         pond_say::text(b"refused 12 at 0: all 16 slots are loaded; only a new bench frees them\n");
         return Next {
             bench: b,
             outcome: Outcome::Refused,
         };
-    }
+    };
     load(rt, b, memory, store, book, i as u64, name, file)
-}
-
-// The lowest slot that is not loaded, or 16.
-fn lowest(slots: [Slot; 16]) -> usize {
-    let mut i: usize = 0;
-    while i < 16 {
-        let sl = slots[i];
-        if !sl.loaded {
-            return i;
-        }
-        i += 1;
-    }
-    16
 }
 
 // Where the bytes of a slot begin.
@@ -82,24 +64,27 @@ fn area(i: usize) -> usize {
     AREA * i
 }
 
-// The file into the bytes from start on, where the slot is free.
-fn read(rt: &HostRuntime, store: &mut [u8], file: &[u8], start: usize, free: bool) -> Whole {
-    let end = told::past(start, AREA);
+// The file into the bytes from start on, where the slot is free; how many bytes were read, where it could be.
+fn read(
+    rt: &HostRuntime,
+    store: &mut [u8],
+    file: &[u8],
+    start: usize,
+    free: bool,
+) -> Option<usize> {
     if free {
-        if start <= end {
-            if end <= store.len() {
-                return pond_files::read(rt, file, &mut store[start..end]);
-            }
+        if let Some(part) = store.get_mut(start..told::past(start, AREA)) {
+            return Some(pond_files::read(rt, file, part)?.len());
         }
     }
-    Whole { ok: true, count: 0 }
+    Some(0)
 }
 
 pub fn asked(
     b: Bench,
     memory: &[u16],
     store: &[u8],
-    book: &mut [u8],
+    book: &mut [Bytes],
     name: &[u8],
     file: &[u8],
     i: usize,
@@ -110,18 +95,18 @@ pub fn asked(
     let answer = out.answer;
     let bench = out.bench;
     let outcome = match answer {
-        Answer::Done(_) => {
+        Ok(_) => {
             pond_rows::put(book, pond_rows::slot_row(i), name);
             pond_rows::put(book, pond_rows::file_row(i), file);
             loaded(book, i, bounds::code_of(store, start, len))
         }
-        Answer::Refused(number, place) => { refusals::is_loaded(number, place, i as u64) }
+        Err(refusal) => { refusals::is_loaded(refusal, i as u64) }
     };
     Next { bench, outcome }
 }
 
 // `slot 0 north: FILE, 120 bytes, 3 routines`
-fn loaded(book: &[u8], i: usize, seg: &[u8]) -> Outcome {
+fn loaded(book: &[Bytes], i: usize, seg: &[u8]) -> Outcome {
     told::slot_of(book, i);
     pond_say::text(b": ");
     pond_say::path(pond_rows::file_of(book, i));
@@ -132,39 +117,20 @@ fn loaded(book: &[u8], i: usize, seg: &[u8]) -> Outcome {
 fn sizes(seg: &[u8]) {
     let n = seg.len() as u64;
     let h = segment::head(seg);
-    let rest = begun(b", # byte%, # routine%\n", n, n, h.count as u64);
-    say(rest, h.count as u64, 0, 0);
+    say(
+        b", # byte%, # routine%\n",
+        &[n, n, h.count as u64, h.count as u64],
+    );
 }
 
 // `slots`: a line for each slot that is loaded.
-pub fn slots(b: Bench, store: &[u8], book: &[u8]) {
-    let all = b.slots;
-    if lowest_loaded(all) == 16 {
+pub fn slots(b: Bench, store: &[u8], book: &[Bytes]) {
+    if !b.slots.iter().any(|sl| sl.loaded) {
         pond_say::text(b"no slot is loaded\n");
     }
-    let mut i: usize = 0;
-    while i < 16 {
-        of_slot(b, store, book, i);
-        i += 1;
-    }
-}
-
-fn of_slot(b: Bench, store: &[u8], book: &[u8], i: usize) {
-    let sl = told::slot(b, i);
-    if sl.loaded {
-        loaded(book, i, bounds::code_of(store, sl.start, sl.len));
-    }
-}
-
-// The lowest slot that is loaded, or 16.
-fn lowest_loaded(slots: [Slot; 16]) -> usize {
-    let mut i: usize = 0;
-    while i < 16 {
-        let sl = slots[i];
+    for (i, sl) in b.slots.iter().enumerate() {
         if sl.loaded {
-            return i;
+            loaded(book, i, bounds::code_of(store, sl.start, sl.len));
         }
-        i += 1;
     }
-    16
 }

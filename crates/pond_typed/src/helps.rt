@@ -1,6 +1,6 @@
 // `help` and `help COMMAND`: one page, of which a line that begins with a blank belongs to the command above it and is shown with that command alone.
 // Above it: the console. Below it: how the console speaks.
-use text::{same, word};
+use text::word;
 
 // What a person sees first.
 pub fn welcome() {
@@ -14,7 +14,7 @@ pub fn welcome() {
 pub fn help(command: &[u8]) -> bool {
     let files = on_files(command);
     let bench = on_bench(command);
-    bounds::either(files, bench)
+    files || bench
 }
 
 fn on_files(command: &[u8]) -> bool {
@@ -75,53 +75,23 @@ fn on_bench(command: &[u8]) -> bool {
 }
 
 fn chosen(page: &[u8], command: &[u8]) -> bool {
-    let mut at: usize = 0;
     let mut mine = false;
     let mut found = false;
-    while at < page.len() {
-        let end = line_end(page, at);
-        if end <= at {
-            break;
-        }
-        mine = belongs(part(page, at, end), command, mine);
+    for line in page.split_inclusive(|b| *b == b'\n') {
+        mine = belongs(line, command, mine);
         if mine {
-            pond_say::text(part(page, at, end));
+            pond_say::text(line);
             found = true;
         }
-        at = end;
     }
     found
 }
 
 // Whether a line is shown: one that begins with a blank goes with the one before it.
 fn belongs(line: &[u8], command: &[u8], mine: bool) -> bool {
-    if line.len() == 0 {
-        return false;
+    match line {
+        [] => false,
+        [b' ', ..] => mine && !command.is_empty(),
+        _ => command.is_empty() || word(line, 0) == command,
     }
-    if line[0] == b' ' {
-        return bounds::both(mine, command.len() > 0);
-    }
-    bounds::either(command.len() == 0, same(word(line, 0), command))
-}
-
-// The byte after the line's end.
-fn line_end(page: &[u8], at: usize) -> usize {
-    let mut i = at;
-    while i < page.len() {
-        if page[i] == b'\n' {
-            break;
-        }
-        i += 1;
-    }
-    if i < page.len() {
-        return i + 1;
-    }
-    i
-}
-
-fn part(page: &[u8], at: usize, end: usize) -> &[u8] {
-    if end < at {
-        return &page[..0];
-    }
-    bounds::code_of(page, at, end - at)
 }

@@ -7,7 +7,7 @@ mod helps;
 mod reads;
 mod shell;
 
-pub use cuts::{Cut, is_command, words_of, wrong};
+pub use cuts::{Miscut, is_command, words_of, wrong};
 pub use helps::{help, welcome};
 pub use reads::{Line, read_line};
 pub use shell::{arg_count, arguments};

@@ -1,27 +1,23 @@
 // The program's arguments as the words of one command. An argument is one word, whatever bytes it holds.
 // Above it: the console. Below it: the tape and `std`.
-use crate::cuts::Cut;
+use crate::cuts::Miscut;
+use pond_rows::Bytes;
+use pond_say::Console;
 use std::env::FillError;
+use std::fmt::Write;
 use std::rt::Env;
 use text::front;
 
-// The arguments onto the tape, but for the program's own name. The count is that of all that are given; `unclosed` is an argument that is too long, of which it
-// has been said.
-pub fn arguments(rt: &HostRuntime, tape: &mut [u8]) -> Cut {
+// The arguments onto the tape, but for the program's own name. The count is that of all that are given.
+pub fn arguments(rt: &HostRuntime, tape: &mut [Bytes]) -> Result<usize, Miscut> {
     let all = arg_count(rt);
-    let mut k: usize = 1;
-    let mut fits = true;
-    let mut hollow = false;
-    while k < 9 {
-        let n = argument(rt, tape, k, all);
-        hollow = bounds::either(hollow, n == 0);
-        fits = bounds::both(fits, n < 5000);
-        k += 1;
+    let mut worst = None;
+    for k in 1..9 {
+        worst = worst.max(argument(rt, tape, k, all).err());
     }
-    Cut {
-        words: less(all),
-        unclosed: !fits,
-        hollow,
+    match worst {
+        Some(why) => Err(why),
+        None => Ok(all.saturating_sub(1)),
     }
 }
 
@@ -36,33 +32,26 @@ pub fn arg_count(rt: &HostRuntime) -> usize {
     usize::MAX
 }
 
-fn less(n: usize) -> usize {
-    if n == 0 {
-        return 0;
-    }
-    n - 1
-}
-
-// Argument k of all, onto the tape: how many bytes it has, 1 where it is not given, or 5000 where it is too long.
-fn argument(rt: &HostRuntime, tape: &mut [u8], k: usize, all: usize) -> usize {
+// Argument k of all, where it is given, onto the tape.
+fn argument(rt: &HostRuntime, tape: &mut [Bytes], k: usize, all: usize) -> Result<(), Miscut> {
     if all <= k {
-        return 1;
+        return Ok(());
     }
     let mut room = io::buffer();
     let n = match rt.arg(k, &mut room) {
         Ok(n) => n,
-        Err(FillError::TooLong) => {
-            too_long(k);
-            return 5000;
-        }
+        Err(FillError::TooLong) => return Err(too_long(k)),
         Err(FillError::NotPresent) => 0,
     };
-    pond_rows::put(tape, less(k), front(&room, n));
-    n
+    pond_rows::put(tape, k.saturating_sub(1), front(&room, n));
+    if n == 0 { Err(Miscut::Hollow) } else { Ok(()) }
 }
 
-fn too_long(k: usize) {
-    pond_say::text(b"cannot follow that: word ");
-    pond_say::number(k as u64);
-    pond_say::text(b" is longer than 4096 bytes\n");
+fn too_long(k: usize) -> Miscut {
+    let mut out = Console;
+    let _ = writeln!(
+        out,
+        "cannot follow that: word {k} is longer than 4096 bytes"
+    );
+    Miscut::TooLong
 }

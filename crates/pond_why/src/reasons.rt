@@ -6,13 +6,16 @@ use pond_windows::Seen;
 
 // The sentence, without its line's end. Where the numbers do not give the fault that was recorded, the plain rule.
 pub fn reason(seg: &[u8], region: &[u16], seen: Seen, regs: Regs, number: u8, place: usize) {
-    let n = cause::numbers_of(seg, region.len(), seen.len, regs);
-    let w = cause::first_failing(seg, region, n);
-    let found = if n.kept { cause::fault_of(w) } else { 0 };
-    if instruction::is_recorded(seg, regs.counter, found, number, place) {
-        let view = seen.view;
-        said::why(n, w, view);
-    } else {
-        pond_rules::fault(number);
+    let found = cause::numbers_of(seg, region.len(), seen.window.len, regs);
+    if let Some(n) = found {
+        let failing = cause::first_failing(seg, region, n);
+        let fault = cause::fault_of(failing);
+        if let Err(why) = failing {
+            if instruction::is_recorded(seg, regs.counter, fault, number, place) {
+                said::why(n, why, seen.view);
+                return;
+            }
+        }
     }
+    pond_rules::fault(number);
 }

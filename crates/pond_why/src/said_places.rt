@@ -8,133 +8,144 @@ use pond_rows::View;
 // The first address of a shared word.
 const SHARED: usize = 32768;
 
-// The record at word 1 is the globals'.
 pub fn place(n: Numbers, p: Place) {
-    let last = less(n.len as usize, 1);
-    let w = n.code as usize / 2;
-    let told = match p {
-        Place::Offset(x, m, at) => [(m == 1) as usize, x as usize, m as usize, at, last, 0],
-        Place::NoPool => [2, 0, 0, 0, 0, 0],
-        Place::Pool(x, at) => [3, x as usize, n.pool as usize, at, less(w, 1), 0],
-        Place::NoTable => [4, 0, 0, 0, 0, 0],
-        Place::Constants(first, last, ends) => constants(first, last, ends, w),
-        Place::Table(at, ends) => table(at, ends, w),
-        Place::Arm(i, at, ends) => [
-            9 + by(ends, w) as usize,
-            i as usize,
-            at as usize,
-            bound(ends, w),
-            0,
-            0,
-        ],
-    };
+    let words = usize::from(n.code) / 2;
+    match p {
+        Place::Offset(x, m, at) => offset(n, x, m, at),
+        Place::NoPool => sentence(
+            b"it wants a constant, and the segment has no constant pool",
+            &[],
+        ),
+        Place::Pool(x, at) => sentence(
+            b"constant # of the pool at word # is word #, and the segment has words 0 to #",
+            &[usize::from(x), usize::from(n.pool), at, less(words, 1)],
+        ),
+        Place::NoTable => sentence(
+            b"it wants a case table, and the segment has no constant pool",
+            &[],
+        ),
+        Place::Constants(first, last, ends) => {
+            constants(first as usize, last as usize);
+            readable(ends, words);
+        }
+        Place::Table(at, ends) => {
+            sentence(
+                b"its case table begins with words # and # of the segment",
+                &[at as usize, at as usize + 1],
+            );
+            readable(ends, words);
+        }
+        Place::Arm(i, at, ends) => {
+            sentence(
+                b"for index ~ its case table has word # of the segment",
+                &[usize::from(i), at as usize],
+            );
+            readable(ends, words);
+        }
+    }
+}
+
+// The record at word 1 is the globals'.
+fn offset(n: Numbers, x: u16, m: u16, at: usize) {
     sentence(
-        b"offset # of the record at word # is word #; the report has words 1 to #|\
-          offset # of the record at word #, the globals, is word #; the report has words 1 to #|\
-          it wants a constant, and the segment has no constant pool|\
-          constant # of the pool at word # is word #, and the segment has words 0 to #|\
-          it wants a case table, and the segment has no constant pool|\
-          it pushes word% #_ of the segment, and the segment has words 0 to #|\
-          it pushes word% #_ of the segment, and the real pool starts at word #|\
-          its case table begins with words # and # of the segment, and the segment has words 0 to #|\
-          its case table begins with words # and # of the segment, and the real pool starts at word #|\
-          for index ~ its case table has word # of the segment, and the segment has words 0 to #|\
-          for index ~ its case table has word # of the segment, and the real pool starts at word #",
-        told,
+        b"offset # of the record at word #",
+        &[usize::from(x), usize::from(m)],
+    );
+    if m == 1 {
+        pond_say::text(b", the globals,");
+    }
+    sentence(
+        b" is word #; the report has words 1 to #",
+        &[at, less(usize::from(n.len), 1)],
     );
 }
 
 // The words that are pushed, the first and the last, or the one.
-fn constants(first: u32, last: u32, ends: usize, words: usize) -> [usize; 6] {
+fn constants(first: usize, last: usize) {
     let many = if first == last { 1 } else { 2 };
-    [
-        5 + by(ends, words) as usize,
-        many,
-        first as usize,
-        end(first as usize, last as usize),
-        bound(ends, words),
-        0,
-    ]
+    sentence(
+        b"it pushes word% #_ of the segment",
+        &[many, first, end(first, last)],
+    );
 }
 
-// The two words with which a case table begins.
-fn table(at: u32, ends: usize, words: usize) -> [usize; 6] {
-    [
-        7 + by(ends, words) as usize,
-        at as usize,
-        at as usize + 1,
-        bound(ends, words),
-        0,
-        0,
-    ]
-}
-
-// Which of two sentences: without a real pool what may be read ends with the segment, and else where the real pool starts.
-fn by(ends: usize, words: usize) -> u8 {
-    (ends < words) as u8
-}
-
-// What such a sentence names: the segment's last word, or the real pool's first.
-fn bound(ends: usize, words: usize) -> usize {
+// What can be read: without a real pool that ends with the segment, and else where the real pool starts.
+fn readable(ends: usize, words: usize) {
     if ends < words {
-        return ends;
+        sentence(b", and the real pool starts at word #", &[ends]);
+    } else {
+        sentence(b", and the segment has words 0 to #", &[less(words, 1)]);
     }
-    less(words, 1)
 }
 
+// Of a session that does not see all shared words, a shared word is one of its window.
 pub fn address(n: Numbers, a: Address, view: View) {
-    if !said_windows::address(n, a, view) {
-        of_address(n, a);
+    match (view, a) {
+        (View::All, _) => of_address(n, a),
+        (_, Address::Shared(base, i)) => said_windows::read(n, base, i, view),
+        (_, Address::StoreShared(to)) => said_windows::stored(n, to, view),
+        _ => of_address(n, a),
     }
 }
 
 fn of_address(n: Numbers, a: Address) {
-    let last = less(n.len as usize, 1);
-    let told = match a {
-        Address::Nil(i) => [0, i as usize, 0, 0, 0, 0],
-        Address::Above(base, i) => [1, base as usize, i as usize, sum(base, i), 0, 0],
-        Address::Word(base, i) => [2, base as usize, i as usize, sum(base, i), last, 0],
-        Address::Shared(base, i) => missing(base, i, n.shared as usize),
-        Address::StoreNil => [5, 0, 0, 0, 0, 0],
-        Address::StoreWord(to) => [6, to as usize, to as usize, last, 0, 0],
-        Address::StoreShared(to) => stored(to, n.shared as usize),
-    };
-    sentence(
-        b"the address is NIL, and NIL + # is no word|\
-          address # + # is #, and the last address is 65535|\
-          address # + # is word #; the report has words 1 to #|\
-          address # + # is shared word #; the report has shared words 0 to #|\
-          address # + # is shared word #; there are no shared words|\
-          it stores to NIL, which is no word|\
-          it stores to address #, which is word #; the report has words 1 to #|\
-          it stores to address #, which is shared word #; the report has shared words 0 to #, and a shared word can only be read|\
-          it stores to address #, which is shared word #; there are no shared words, and a shared word can only be read|\
-          it stores to address #, which is shared word #, and a shared word can only be read",
-        told,
-    );
+    let last = less(usize::from(n.len), 1);
+    match a {
+        Address::Nil(i) => sentence(
+            b"the address is NIL, and NIL + # is no word",
+            &[usize::from(i)],
+        ),
+        Address::Above(base, i) => {
+            sum(
+                b"address # + # is #, and the last address is 65535",
+                base,
+                i,
+            );
+        }
+        Address::Word(base, i) => {
+            sum(b"address # + # is word #", base, i);
+            sentence(b"; the report has words 1 to #", &[last]);
+        }
+        Address::Shared(base, i) => shared(base, i, usize::from(n.shared)),
+        Address::StoreNil => sentence(b"it stores to NIL, which is no word", &[]),
+        Address::StoreWord(to) => sentence(
+            b"it stores to address #, which is word #; the report has words 1 to #",
+            &[usize::from(to), usize::from(to), last],
+        ),
+        Address::StoreShared(to) => stored(usize::from(to), usize::from(n.shared)),
+    }
 }
 
-fn sum(base: u16, i: u16) -> usize {
-    base as usize + i as usize
+// An address, the index, and their sum.
+fn sum(text: &[u8], base: u16, i: u16) {
+    let (base, i) = (usize::from(base), usize::from(i));
+    sentence(text, &[base, i, base + i]);
 }
 
 // A shared word that is not there, and which ones are.
-fn missing(base: u16, i: u16, shared: usize) -> [usize; 6] {
-    let at = less(sum(base, i), SHARED);
-    if shared == 0 {
-        return [4, base as usize, i as usize, at, 0, 0];
+fn shared(base: u16, i: u16, words: usize) {
+    let (base, i) = (usize::from(base), usize::from(i));
+    sentence(
+        b"address # + # is shared word #",
+        &[base, i, less(base + i, SHARED)],
+    );
+    there(words);
+}
+
+fn there(words: usize) {
+    if words == 0 {
+        pond_say::text(b"; there are no shared words");
+    } else {
+        sentence(b"; the report has shared words 0 to #", &[less(words, 1)]);
     }
-    [3, base as usize, i as usize, at, less(shared, 1), 0]
 }
 
 // A store to a shared word, which may be there.
-fn stored(to: u16, shared: usize) -> [usize; 6] {
-    let at = less(to as usize, SHARED);
-    if at < shared {
-        return [9, to as usize, at, 0, 0, 0];
+fn stored(to: usize, words: usize) {
+    let at = less(to, SHARED);
+    sentence(b"it stores to address #, which is shared word #", &[to, at]);
+    if words <= at {
+        there(words);
     }
-    if shared == 0 {
-        return [8, to as usize, at, 0, 0, 0];
-    }
-    [7, to as usize, at, less(shared, 1), 0, 0]
+    pond_say::text(b", and a shared word can only be read");
 }

@@ -11,4 +11,4 @@ mod windows;
 pub use holds::held;
 pub use lines::{opened, shown};
 pub use refusals::refused;
-pub use windows::{Seen, open_window, seen_by};
+pub use windows::{Seen, seen_by};

@@ -1,34 +1,18 @@
-// The window of a session: what its record says of it, and an opening with a window that is named by its numbers.
+// The window of a session, with what its record and the book say of it.
 // Above it: all that speaks of windows. Below it: the bench and the book.
-use bench::Out;
-use pond_rows::View;
-use sound::{Bench, Session, Window};
+use pond_rows::{Bytes, View};
+use sound::{Session, Window};
 
-// For whom a session was opened, and its window: so many words, and the first of them among the shared words.
+// For whom a session was opened, and what it sees of the shared words.
 #[derive(Clone, Copy)]
 pub struct Seen {
     pub view: View,
-    pub first: usize,
-    pub len: usize,
+    pub window: Window,
 }
 
-pub fn seen_by(book: &[u8], se: Session, i: usize) -> Seen {
-    let w = se.window;
+pub fn seen_by(book: &[Bytes], se: Session, i: usize) -> Seen {
     Seen {
         view: pond_rows::view_of(book, i),
-        first: w.first,
-        len: w.len,
+        window: se.window,
     }
-}
-
-pub fn open_window(
-    b: Bench,
-    memory: &mut [u16],
-    store: &[u8],
-    slot: usize,
-    words: usize,
-    first: usize,
-    len: usize,
-) -> Out {
-    bench::open_window(b, memory, store, slot, words, Window { first, len })
 }

@@ -1,258 +1,175 @@
-// The commands on a bench, with the numbers that their words say. Nothing is done here.
+// The commands on a bench, with the numbers and names that their words say. Nothing is done here.
 // Above it: what does them. Below it: forms, numbers and names.
+use crate::expects;
 use crate::expects::{Given, numbers_at};
-use crate::forms::{expected, is_number};
-use crate::{expects, forms};
-use numbers::Number;
-use pond_rows::row;
-use text::same;
+use crate::forms::{Command, Form, expected, fits, is_number, stands};
+use numbers::NoNumber;
+use pond_rows::{Bytes, row};
 
-// No tape has this word: it stands for a name that is not given.
-const UNNAMED: usize = 8;
-
-// What is to be done, with the numbers of slots and sessions. Words that are bytes stay on the tape: a file is the last word, and a new name the word that is told.
+// What is to be done, with the numbers of slots and sessions, new names and files.
 #[derive(Clone, Copy)]
-pub enum Deed {
+pub enum Deed<'a> {
     Map,
     Slots,
-    Fill,
+    Fill(&'a [u8]),
     Show(u64),
     Close(u64),
     Bench(u64, u64),
-    BenchOf(u64),
-    Load(u64),
-    LoadNamed,
+    BenchOf(u64, &'a [u8]),
+    Load(u64, &'a [u8]),
+    LoadNamed(&'a [u8], &'a [u8]),
     Turn(u64, u64),
-    Save(u64),
+    Save(u64, &'a [u8]),
     Step(u64, u64),
-    Open(u64, u64, usize),
-    OpenFor(u64, u64, usize, u16),
-    OpenWindow(u64, u64, usize, u64, u64),
+    Open(Opening<'a>, Sight),
     Archive,
     Farm(u16),
-    Records,
+    Records(&'a [u8]),
     Words(u64, Given),
     Shared(Given),
-    Wrong,
 }
 
-// An opening: slot, words and where its name stands, if they could be read.
+// An opening: slot, words and the new name, which has no bytes where none is given.
 #[derive(Clone, Copy)]
-struct Order {
-    ok: bool,
-    slot: u64,
-    words: u64,
-    name: usize,
+pub struct Opening<'a> {
+    pub slot: u64,
+    pub words: u64,
+    pub name: &'a [u8],
 }
 
-// The command on the tape, with n words behind its verb. It is `Wrong` where they cannot be followed, of which it has been said.
-pub fn read(form: u8, book: &[u8], tape: &[u8], n: u8) -> Deed {
-    if !forms::fits(form, n) {
-        expected(form);
-        return Deed::Wrong;
+// Which shared words a session is opened for: all, a farm's, or so many from one on.
+#[derive(Clone, Copy, Debug, PartialEq, Eq)]
+pub enum Sight {
+    All,
+    Farm(u16),
+    Window(u64, u64),
+}
+
+// The command's deed, where its words can be followed; else it has been said why not.
+pub fn read<'a>(book: &[Bytes], c: Command<'a>) -> Option<Deed<'a>> {
+    if !fits(c.form, c.n) {
+        expected(c.form);
+        return None;
     }
-    match form {
-        forms::MAP => Deed::Map,
-        forms::SLOTS => Deed::Slots,
-        forms::FILL => Deed::Fill,
-        forms::RECORDS => Deed::Records,
-        forms::ARCHIVE => archive(row(tape, 1), n),
-        forms::BENCH => bench(tape, n),
-        forms::LOAD => load(book, row(tape, 1)),
-        forms::OPEN => open(book, tape, n),
-        forms::SHARED => shared(numbers_at(form, tape, 1, n)),
-        _ => of_session(form, book, tape, n),
+    let first = row(c.tape, 1);
+    match c.form {
+        Form::Map => Some(Deed::Map),
+        Form::Slots => Some(Deed::Slots),
+        Form::Fill => Some(Deed::Fill(first)),
+        Form::Records => Some(Deed::Records(first)),
+        Form::Archive => archive(first, c.n),
+        Form::Bench => bench(c),
+        Form::Load => load(book, first, row(c.tape, 2)),
+        Form::Open => open(book, c),
+        Form::Shared => Some(Deed::Shared(numbers_at(c.form, c.tape, 1, c.n)?)),
+        _ => of_session(book, c),
     }
 }
 
 // `bench N S`, or `bench N records FILE`.
-fn bench(tape: &[u8], n: u8) -> Deed {
-    if n == 3 {
-        return bench_of(tape);
+fn bench(c: Command) -> Option<Deed> {
+    if c.n == 3 {
+        return bench_of(c.tape);
     }
-    let p = numbers_at(forms::BENCH, tape, 1, 2);
-    if p.ok {
-        return Deed::Bench(p.first, p.second);
-    }
-    Deed::Wrong
+    let n = expects::number(row(c.tape, 1), c.form)?;
+    let s = expects::number(row(c.tape, 2), c.form)?;
+    Some(Deed::Bench(n, s))
 }
 
-fn bench_of(tape: &[u8]) -> Deed {
-    if !same(row(tape, 2), b"records") {
-        expected(forms::BENCH);
-        return Deed::Wrong;
+fn bench_of(tape: &[Bytes]) -> Option<Deed> {
+    if !matches!(row(tape, 2), b"records") {
+        expected(Form::Bench);
+        return None;
     }
-    let a = expects::number(row(tape, 1), forms::BENCH);
-    if a.ok {
-        return Deed::BenchOf(a.value);
-    }
-    Deed::Wrong
+    let n = expects::number(row(tape, 1), Form::Bench)?;
+    Some(Deed::BenchOf(n, row(tape, 3)))
 }
 
 // The whole archive, or one farm's records.
-fn archive(farm: &[u8], n: u8) -> Deed {
+fn archive(farm: &[u8], n: u8) -> Option<Deed<'_>> {
     if n == 0 {
-        return Deed::Archive;
+        return Some(Deed::Archive);
     }
-    let f = expects::farm(farm, forms::ARCHIVE);
-    if f.ok {
-        return Deed::Farm((f.value % 65536) as u16);
-    }
-    Deed::Wrong
-}
-
-fn shared(p: Given) -> Deed {
-    if p.ok {
-        return Deed::Shared(p);
-    }
-    Deed::Wrong
+    Some(Deed::Farm(expects::farm(farm, Form::Archive)?))
 }
 
 // A slot that is given as a number is that slot; a name is a new one, for the lowest slot that is free.
-fn load(book: &[u8], slot: &[u8]) -> Deed {
+fn load<'a>(book: &[Bytes], slot: &'a [u8], file: &'a [u8]) -> Option<Deed<'a>> {
     let n = numbers::number_of(slot);
-    if let Number::Not = n {
-        if expects::new_slot(book, slot) {
-            return Deed::LoadNamed;
-        }
-        return Deed::Wrong;
+    if n != Err(NoNumber::Not) {
+        return Some(Deed::Load(expects::value(n, slot)?, file));
     }
-    let a = expects::value(n, slot);
-    if a.ok {
-        return Deed::Load(a.value);
+    if expects::new_slot(book, slot) {
+        return Some(Deed::LoadNamed(slot, file));
     }
-    Deed::Wrong
+    None
 }
 
 // `open [NAME] SLOT WORDS`, and behind it `for FARM` or `window FIRST COUNT`.
-fn open(book: &[u8], tape: &[u8], n: u8) -> Deed {
-    if forms::stands(tape, n, 1, b"for") {
-        return open_for(order_of(book, tape, less(n, 2)), row(tape, n as usize));
+fn open<'a>(book: &[Bytes], c: Command<'a>) -> Option<Deed<'a>> {
+    if stands(c, 1, b"for") {
+        let o = order_of(book, c.tape, c.n.saturating_sub(2))?;
+        let farm = expects::farm(row(c.tape, usize::from(c.n)), c.form)?;
+        return Some(Deed::Open(o, Sight::Farm(farm)));
     }
-    if forms::stands(tape, n, 2, b"window") {
-        return open_window(order_of(book, tape, less(n, 3)), tape, n);
+    if stands(c, 2, b"window") {
+        let o = order_of(book, c.tape, c.n.saturating_sub(3))?;
+        let first = expects::number(row(c.tape, usize::from(c.n.saturating_sub(1))), c.form)?;
+        let count = expects::number(row(c.tape, usize::from(c.n)), c.form)?;
+        return Some(Deed::Open(o, Sight::Window(first, count)));
     }
-    let o = order_of(book, tape, n);
-    if o.ok {
-        return Deed::Open(o.slot, o.words, o.name);
-    }
-    Deed::Wrong
-}
-
-fn open_for(o: Order, farm: &[u8]) -> Deed {
-    if !o.ok {
-        return Deed::Wrong;
-    }
-    let f = expects::farm(farm, forms::OPEN);
-    if f.ok {
-        return Deed::OpenFor(o.slot, o.words, o.name, (f.value % 65536) as u16);
-    }
-    Deed::Wrong
-}
-
-fn open_window(o: Order, tape: &[u8], n: u8) -> Deed {
-    if !o.ok {
-        return Deed::Wrong;
-    }
-    let p = numbers_at(forms::OPEN, tape, less(n, 1) as usize, 2);
-    if p.ok {
-        return Deed::OpenWindow(o.slot, o.words, o.name, p.first, p.second);
-    }
-    Deed::Wrong
-}
-
-fn less(n: u8, by: u8) -> u8 {
-    if n < by {
-        return 0;
-    }
-    n - by
+    let o = order_of(book, c.tape, c.n)?;
+    Some(Deed::Open(o, Sight::All))
 }
 
 // `SLOT WORDS`, or `NAME SLOT WORDS`, in the first n words behind the verb.
-fn order_of(book: &[u8], tape: &[u8], n: u8) -> Order {
+fn order_of<'a>(book: &[Bytes], tape: &'a [Bytes], n: u8) -> Option<Opening<'a>> {
+    let name = row(tape, 1);
     match n {
-        2 => ordered(book, row(tape, 1), row(tape, 2), UNNAMED),
-        3 => named(book, tape, row(tape, 1)),
+        2 => ordered(book, name, row(tape, 2), b""),
+        3 if !is_number(name) => {
+            if expects::new_session(book, name) {
+                return ordered(book, row(tape, 2), row(tape, 3), name);
+            }
+            None
+        }
         _ => {
-            expected(forms::OPEN);
-            none()
+            expected(Form::Open);
+            None
         }
     }
 }
 
-fn named(book: &[u8], tape: &[u8], name: &[u8]) -> Order {
-    if is_number(name) {
-        expected(forms::OPEN);
-        return none();
-    }
-    if expects::new_session(book, name) {
-        return ordered(book, row(tape, 2), row(tape, 3), 1);
-    }
-    none()
-}
-
-fn none() -> Order {
-    Order {
-        ok: false,
-        slot: 0,
-        words: 0,
-        name: UNNAMED,
-    }
-}
-
-fn ordered(book: &[u8], slot: &[u8], words: &[u8], name: usize) -> Order {
-    let s = expects::slot(book, slot);
-    if !s.ok {
-        return none();
-    }
-    let w = expects::number(words, forms::OPEN);
-    Order {
-        ok: w.ok,
-        slot: s.value,
-        words: w.value,
-        name,
-    }
+fn ordered<'a>(book: &[Bytes], slot: &[u8], words: &[u8], name: &'a [u8]) -> Option<Opening<'a>> {
+    let slot = expects::slot(book, slot)?;
+    let words = expects::number(words, Form::Open)?;
+    Some(Opening { slot, words, name })
 }
 
 // The commands whose first word is a session. Its numbers are read before it.
-fn of_session(form: u8, book: &[u8], tape: &[u8], n: u8) -> Deed {
-    let p = numbers_at(form, tape, 2, counted(form, n));
-    if !p.ok {
-        return Deed::Wrong;
-    }
-    let s = expects::session(book, row(tape, 1));
-    if !s.ok {
-        return Deed::Wrong;
-    }
-    with_session(form, s.value, p)
-}
-
-// How many numbers stand behind the session.
-fn counted(form: u8, n: u8) -> u8 {
-    if form == forms::SAVE {
-        return 0;
-    }
-    if n == 0 {
-        return 0;
-    }
-    n - 1
-}
-
-fn with_session(form: u8, session: u64, p: Given) -> Deed {
-    match form {
-        forms::SHOW => Deed::Show(session),
-        forms::CLOSE => Deed::Close(session),
-        forms::SAVE => Deed::Save(session),
-        forms::TURN => Deed::Turn(session, p.first),
-        forms::STEP => Deed::Step(session, steps(p)),
+fn of_session<'a>(book: &[Bytes], c: Command<'a>) -> Option<Deed<'a>> {
+    // behind the session; of `save` the word there is a file
+    let count = if c.form == Form::Save {
+        0
+    } else {
+        c.n.saturating_sub(1)
+    };
+    let p = numbers_at(c.form, c.tape, 2, count)?;
+    let session = expects::session(book, row(c.tape, 1))?;
+    Some(match c.form {
+        Form::Show => Deed::Show(session),
+        Form::Close => Deed::Close(session),
+        Form::Save => Deed::Save(session, row(c.tape, 2)),
+        Form::Turn => Deed::Turn(session, first_or(p, 0)),
+        // one step where no number is given
+        Form::Step => Deed::Step(session, first_or(p, 1)),
         _ => Deed::Words(session, p),
-    }
+    })
 }
 
-// One step where no number is given.
-fn steps(p: Given) -> u64 {
-    if p.count == 0 {
-        return 1;
+fn first_or(p: Given, none: u64) -> u64 {
+    match p {
+        Given::Nothing => none,
+        Given::One(n) | Given::Two(n, _) => n,
     }
-    p.first
 }

@@ -1,11 +1,11 @@
 // The words of the commands: which command it is, and the numbers and names among its words; what is said of words that cannot be followed.
 // Above it: what does the commands. Below it: the names that are kept, and how the console speaks. No bench is here.
-// A command comes on a tape: its verb is word 0, and n words stand behind it.
 #![tactic(auto)]
 
 mod deeds;
 mod expects;
 pub mod forms;
 
-pub use deeds::{Deed, read};
+pub use deeds::{Deed, Opening, Sight, read};
 pub use expects::{Given, farm, numbers_at};
+pub use forms::{Command, Form, Keep};

@@ -2,7 +2,7 @@
 -- Above: Promises. Below: Zeros, sound's facts of two open sessions.
 use mathlib.Core.Path.{◌≡◌, refl, sym, ap, ◌∙◌}
 use mathlib.Core.List.{List}
-use mathlib.Core.Bool.{true, false, false≢true}
+use mathlib.Core.Bool.{true, false≢true}
 use Prim.Native.Nat.{ℕ, ◌+◌, ◌≤◌, ◌<◌}
 use native.Mathlib.Omega.{arith}
 use native.Mathlib.Decide.{ℕ_discrete}
@@ -15,11 +15,11 @@ use Rattle.sound.specs.Sound.{Sound}
 use Rattle.sound.specs.declared.Session.{Session}
 use Rattle.sound.proofs.Lists.{decided}
 use Rattle.sound.proofs.Facts.{opened, long, used_in, apart_good}
-use Rattle.entry.specs.declared.Answer.TheVariants.{Done}
 use Rattle.entry.specs.Entries.{cleared, open_at, close_checks, close_of}
 use Rattle.entry.proofs.Refusing.{passes}
 use Rattle.promises.specs.Words.{InRegion, Free, OnlyRecord, Closes}
 use Rattle.promises.proofs.Zeros.{zeroed, only}
+use Rattle.entry.specs.Answer.{Done}
 
 module _ (store : List ℕ) (w : World) (i : ℕ) (g : Sound store w) (u : (session_at w i).used ≡ true) where
   abbrev after : World

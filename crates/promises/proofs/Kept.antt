@@ -4,7 +4,7 @@ use mathlib.Core.Logic.{◌↔◌}
 use mathlib.Core.Path.{◌≡◌, refl, sym, ap, ◌∙◌}
 use mathlib.Core.List.{List}
 use mathlib.Core.Bool.{true, false, not, false≢true, or-true}
-use Prim.Native.Nat.{ℕ, ◌+◌, ◌-◌, ◌%◌, ◌≤◌, ◌<◌}
+use Prim.Native.Nat.{ℕ, ◌+◌, ◌%◌, ◌≤◌, ◌<◌}
 use native.Mathlib.Omega.{arith}
 use lib.Dec.{leb, eqb}
 use lib.ListN.{length, set, replicate, length-set, length-replicate}
@@ -23,8 +23,7 @@ use Rattle.sound.specs.declared.Window.{Window}
 use Rattle.sound.proofs.Below.{start_ok}
 use Rattle.sound.proofs.Lists.{either_way, all_at, all_imp, all_put, apart_put}
 use Rattle.sound.proofs.Facts.{put_together, parts, long, opened, slot_good}
-use Rattle.entry.specs.declared.Gap.{Gap}
-use Rattle.entry.specs.declared.Gap.TheVariants.{At, Full}
+use Rattle.std.specs.Prelude.{Option, Some, None}
 use Rattle.entry.specs.Answer.{answer_ruling}
 use Rattle.entry.specs.Entries.{loaded_at, new_of, loaded_slot, range_ok, load_of, len_ok, record_for, clear_of, gap_at, gap_of, gap_for, found, place_in, cleared, fresh, window_open_of, close_of}
 use Rattle.entry.proofs.Refusing.{by_checks}
@@ -89,10 +88,10 @@ module _ (store : List ℕ) (w : World) (g : Sound store w) where
         let start = start_ok code len (slot_good store w g slot at.1) (leb-true _ _ y.0) (leb-true _ _ y.1.1.0) in
         holds_every _ (at.0, (at.1, (y.0, (y.1.0, (start, tt)))))
 
-    opens_by : (i : ℕ) (r : Gap) → gap_for w len ≡ r → found r ≡ true → Sound store (cleared i (opening (place_in r)) (place_in r) len w)
+    opens_by : (i : ℕ) (r : Option ℕ) → gap_for w len ≡ r → found r ≡ true → Sound store (cleared i (opening (place_in r)) (place_in r) len w)
     unfolding gap_of gap_at placed
-    opens_by i Full e h = absurd (false≢true h)
-    opens_by i (At a) e h =
+    opens_by i None e h = absurd (false≢true h)
+    opens_by i (Some a) e h =
         let x = every_holds _ (lowest_passes (gap_at w.bench.sessions w.bench.s w.bench.n len) (w.bench.n + 1) 0 a e) in
         let f : a + len ≤ length w.mem = rw (long store w g) (leb-true _ _ x.1.0) in
         replaced_good i (opening a) a len f (holds_every _ (x.0, (x.1.0, (seen, tt)))) (fresh_ok a)

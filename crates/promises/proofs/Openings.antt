@@ -18,12 +18,10 @@ use Rattle.sound.specs.declared.Window.{Window}
 use Rattle.sound.specs.Sound.{inside_shared, Sound}
 use Rattle.sound.proofs.Lists.{either_way, decided, all_at, all_from}
 use Rattle.sound.proofs.Facts.{long, used_in, opened}
-use Rattle.entry.specs.declared.Gap.{Gap}
-use Rattle.entry.specs.declared.Gap.TheVariants.{At, Full}
-use Rattle.entry.specs.declared.Answer.TheVariants.{Done}
+use Rattle.std.specs.Prelude.{Option, Some, None}
 use Rattle.basis.specs.Checks.{check, refused}
 use Rattle.basis.proofs.Checks.{Passing, never}
-use Rattle.entry.specs.Answer.{answer_ruling, Result}
+use Rattle.entry.specs.Answer.{Done, answer_ruling, Result}
 use Rattle.entry.specs.Entries.{is_sound, loaded_at, window_checks, len_ok, first_place, unused, record_for, clear_of, lowest, gap_at, gap_of, gap_for, found, place_in, fresh, opens, window_open_of}
 use Rattle.entry.proofs.Refusing.{passes, stops, by_checks}
 use Rattle.entry_open.proofs.Lowest.{first_at, lowest_passes}
@@ -33,9 +31,9 @@ use Rattle.promises.proofs.Zeros.{zeroed, only}
 -- ---- the lowest of a search
 
 -- where a search stops: at the one found, or at the end
-abbrev stop : ℕ → Gap → ℕ
-stop end (At c) = c
-stop end Full = end
+abbrev stop : ℕ → Option ℕ → ℕ
+stop end (Some c) = c
+stop end None = end
 
 -- none passes before that
 lowest_none : (p : ℕ → Bool) (f a end b : ℕ) → a + f ≡ end → a ≤ b → b < stop end (lowest p f a) → p b ≡ false
@@ -106,19 +104,19 @@ module _ (store : List ℕ) (w : World) (g : Sound store w) (len : ℕ) where
       holds_every _ (le-leb _ _ lo, (le-leb _ _ end, (clear, tt)))
 
   -- before the place where the search stopped there is none; so no gap is found exactly where there is none
-  none_before : (r : Gap) → gap_for w len ≡ r → 1 ≤ len → (b : ℕ) → b < stop (w.bench.n + 1) r → GapFrom w len b → ⊥
+  none_before : (r : Option ℕ) → gap_for w len ≡ r → 1 ≤ len → (b : ℕ) → b < stop (w.bench.n + 1) r → GapFrom w len b → ⊥
   unfolding gap_of
   none_before r e o b h f =
       false≢true (sym (lowest_none gap (w.bench.n + 1) 0 (w.bench.n + 1) b (omega arith) (omega arith) (rw e h)) ∙ free_gap b o f)
 
-  none_found : gap_for w len ≡ Full → 1 ≤ len → (a : ℕ) → GapFrom w len a → ⊥
-  none_found e o a f = let hi = (f a (omega arith) (omega arith)).inside in none_before Full e o a (omega (arith, hi)) f
+  none_found : gap_for w len ≡ None → 1 ≤ len → (a : ℕ) → GapFrom w len a → ⊥
+  none_found e o a f = let hi = (f a (omega arith) (omega arith)).inside in none_before None e o a (omega (arith, hi)) f
 
-  is_gap : (a : ℕ) → gap_for w len ≡ At a → gap a ≡ true
+  is_gap : (a : ℕ) → gap_for w len ≡ Some a → gap a ≡ true
   unfolding gap_of
   is_gap a e = lowest_passes gap (w.bench.n + 1) 0 a e
 
-  gap_in : (a : ℕ) → gap_for w len ≡ At a → a + len ≤ length w.mem
+  gap_in : (a : ℕ) → gap_for w len ≡ Some a → a + len ≤ length w.mem
   unfolding gap_at
   gap_in a e = rw (long store w g) (leb-true _ _ (every_holds _ (is_gap a e)).1.0)
 
@@ -140,20 +138,20 @@ module _ (store : List ℕ) (w : World) (slot len : ℕ) (v : Window) (g : Sound
     sizes : (len_ok (code_of store (slot_at w.bench.slots slot)) len && inside_shared w.bench.s v) ≡ true
     sizes = and_both _ _ lk seen
 
-    number_by : (r : Gap) → gap_for w len ≡ r → answer_ruling (window_open_of store slot len v w).answer ≡ refused 15 0 → r ≡ Full
+    number_by : (r : Option ℕ) → gap_for w len ≡ r → answer_ruling (window_open_of store slot len v w).answer ≡ refused 15 0 → r ≡ None
     unfolding window_open_of
-    number_by Full e n = refl
-    number_by (At a) e n =
+    number_by None e n = refl
+    number_by (Some a) e n =
         let q = passes (window_checks store slot len v w) w (opening (place_in (gap_for w len))) (g.sound, (ld, (sizes, (le-leb _ _ left, (ap found e, tt))))) in
         absurd (never (ap (λ (r : Result). answer_ruling r.answer) q) n)
 
-    refused_by : (r : Gap) → gap_for w len ≡ r → ((a : ℕ) → GapFrom w len a → ⊥) → answer_ruling (window_open_of store slot len v w).answer ≡ refused 15 0
+    refused_by : (r : Option ℕ) → gap_for w len ≡ r → ((a : ℕ) → GapFrom w len a → ⊥) → answer_ruling (window_open_of store slot len v w).answer ≡ refused 15 0
     unfolding window_open_of
-    refused_by Full e n =
+    refused_by None e n =
         ap (λ (r : Result). answer_ruling r.answer)
         (stops (check 11 0 (is_sound store w) ∷ check 12 0 (loaded_at w slot) ∷ check 13 0 (len_ok code len && inside_shared w.bench.s v) ∷ check 14 0 (leb (record_for w) 15) ∷ []) 15
         (found (gap_for w len)) [] w (opening (place_in (gap_for w len))) (g.sound, (ld, (sizes, (le-leb _ _ left, tt)))) (ap found e))
-    refused_by (At a) e n = absurd (n a (gap_free store w g len a (is_gap store w g len a e)))
+    refused_by (Some a) e n = absurd (n a (gap_free store w g len a (is_gap store w g len a e)))
 
     pub fifteen : (answer_ruling (window_open_of store slot len v w).answer ≡ refused 15 0) ↔ ((a : ℕ) → GapFrom w len a → ⊥)
     fifteen = (λ n. none_found store w g len (number_by (gap_for w len) refl n) (len_some code len lk), refused_by (gap_for w len) refl)
@@ -168,9 +166,9 @@ module _ (store : List ℕ) (w : World) (slot len : ℕ) (v : Window) (g : Sound
       (opening (place_in (gap_for w len))) (g.sound, (ld, tt)) wide)
 
   -- what an opening that is done has done
-  done_by : Passing (window_checks store slot len v w) → (r : Gap) → gap_for w len ≡ r → Opens store slot len v w (opening (place_in r)).world (record_for w)
-  done_by p Full e = absurd (false≢true (sym (ap found e) ∙ p.1.1.1.1.0))
-  done_by p (At a) e =
+  done_by : Passing (window_checks store slot len v w) → (r : Option ℕ) → gap_for w len ≡ r → Opens store slot len v w (opening (place_in r)).world (record_for w)
+  done_by p None e = absurd (false≢true (sym (ap found e) ∙ p.1.1.1.1.0))
+  done_by p (Some a) e =
       let lo : record_for w ≤ 15 = leb-true _ _ p.1.1.1.0 in
       let inl : record_for w < length w.bench.sessions = rw g.sixteen (omega (arith, lo)) in
       let se = fresh slot a len v (start_of code len) in
@@ -178,7 +176,7 @@ module _ (store : List ℕ) (w : World) (slot len : ℕ) (v : Window) (g : Sound
       record {
         place = a;
         gap = gap_free store w g len a (is_gap store w g len a e);
-        lowest_gap = none_before store w g len (At a) e (len_some code len (and_fst _ _ p.1.1.0));
+        lowest_gap = none_before store w g len (Some a) e (len_some code len (and_fst _ _ p.1.1.0));
         low = lo;
         unused = not-true _ (first_at unused w.bench.sessions no_session inl);
         lowest_record = λ j h. not-false _ (first_least unused w.bench.sessions no_session j h);

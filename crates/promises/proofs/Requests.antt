@@ -1,22 +1,28 @@
 -- What holds of every request alike: its answer is the ruling of its checks, a refusal changes nothing, soundness is kept, and a contract
 -- allows one answer. Above: demands. Below: Kept, entry's laws of a list of checks; a turn keeps soundness by the registers' ranges.
 use mathlib.Core.Path.{◌≡◌, refl, sym, ap, ◌∙◌}
-use mathlib.Core.List.{List, ◌++◌}
+use mathlib.Core.List.{List, [], ◌∷◌, ◌++◌}
 use mathlib.Core.Bool.{true}
 use Prim.Native.Nat.{ℕ, ◌+◌, ◌-◌, ◌≤◌}
 use native.Mathlib.Omega.{arith}
 use lib.Dec.{leb}
+use lib.ListN.{get_or}
+use Rattle.std.specs.Prelude.{Result as Fallible, Ok, Err}
 use Rattle.basis.specs.Checks.{Check, Ruling, passed, refused, ruling, followed_by}
 use Rattle.basis.proofs.Bools.{and_snd}
 use Rattle.basis.proofs.Checks.{never, ruling_append}
 use Rattle.basis.proofs.Part.{length_part, length_splice}
+use Rattle.segment.specs.declared.refusal.Refusal.{Refusal}
+use Rattle.segment.specs.declared.refusal.Refusal.TheVariants.{Length, Sex, Relocation, Pool, Dictionary, Entry, Datasize, Exitic, HasPool, ShortOutput, Unsound, NotThere, RegionLength, NoRecord, NoGap, TooManySteps, Limits, NotArchive}
+use Rattle.segment.specs.Refusals.{number_of, place_of}
 use Rattle.sound.specs.Below.{cpu_of}
 use Rattle.sound.specs.Bench.{World, session_at, code_at, window_at, state_at}
 use Rattle.sound.specs.Sound.{Sound}
+use Rattle.sound.specs.declared.Bench.{Bench}
 use Rattle.sound.proofs.Below.{run_keeps, run_length}
 use Rattle.sound.proofs.Facts.{opened, registers_good}
 use Rattle.entry.specs.declared.Out.{Out}
-use Rattle.entry.specs.Answer.{answer_ruling, Result, result_of, done, ruled, refusing}
+use Rattle.entry.specs.Answer.{Answer, Done, Refused, answer_of, answer_ruling, Result, result_of, done, ruled, refusing}
 use Rattle.entry.specs.Entries.{load_of, all_shared, window_open_of, ran_of, put, turn_of, close_of}
 use Rattle.entry.proofs.Refusing.{by_checks}
 use Rattle.archive.specs.Archive.{farm_range, farm_open_of}
@@ -107,7 +113,62 @@ stays_sound store (closing i) w g = close_sound store w g i
 
 -- ---- one answer
 
+-- the refusal of a number and a place, and the answer of what it says: both are told from what the contracts say of them
+abbrev named : ℕ → ℕ → Refusal
+named n p =
+    get_or
+    (Unsound
+    ∷ Length
+    ∷ Sex
+    ∷ Relocation
+    ∷ Pool
+    ∷ Dictionary
+    ∷ Entry p
+    ∷ Datasize p
+    ∷ Exitic p
+    ∷ HasPool
+    ∷ ShortOutput
+    ∷ Unsound
+    ∷ NotThere
+    ∷ RegionLength
+    ∷ NoRecord
+    ∷ NoGap
+    ∷ TooManySteps
+    ∷ Limits
+    ∷ [])
+    n NotArchive
+
+named_again : (r : Refusal) → named (number_of r) (place_of r) ≡ r
+named_again Length = refl
+named_again Sex = refl
+named_again Relocation = refl
+named_again Pool = refl
+named_again Dictionary = refl
+named_again (Entry k) = refl
+named_again (Datasize k) = refl
+named_again (Exitic k) = refl
+named_again HasPool = refl
+named_again ShortOutput = refl
+named_again Unsound = refl
+named_again NotThere = refl
+named_again RegionLength = refl
+named_again NoRecord = refl
+named_again NoGap = refl
+named_again TooManySteps = refl
+named_again Limits = refl
+named_again NotArchive = refl
+
+abbrev answer_by : Answer → Fallible ℕ Refusal
+answer_by (Done v) = Ok v
+answer_by (Refused n p) = Err (named n p)
+
+answer_again : (a : Fallible ℕ Refusal) → answer_by (answer_of a) ≡ a
+answer_again (Ok v) = refl
+answer_again (Err r) = ap Err (named_again r)
+
 pub one_answer : (r r' : Out) (m m' : List ℕ) (x : Result) → result_of r m ≡ x → result_of r' m' ≡ x → (r ≡ r') × (m ≡ m')
 one_answer r r' m m' x e e' =
     let q = e ∙ sym e' in
-    (ap (λ (y : Result). record { answer = y.answer; bench = y.world.bench }) q, ap (λ (y : Result). y.world.mem) q)
+    let a = sym (answer_again r.answer) ∙ ap (λ (y : Result). answer_by y.answer) q ∙ answer_again r'.answer in
+    let b = ap (λ (y : Result). y.world.bench) q in
+    (ap (λ (f : Fallible ℕ Refusal). record { answer = f; bench = r.bench }) a ∙ ap (λ (x : Bench). record { answer = r'.answer; bench = x }) b, ap (λ (y : Result). y.world.mem) q)

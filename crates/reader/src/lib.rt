@@ -6,7 +6,7 @@
 ghost use Rattle.std.specs.Prelude.{◌≡◌};
 ghost use Rattle.operand.specs.Operand.{fetched, fetched_of, form_at};
 
-use operand::Operand;
+use operand::{Missing, Operand};
 
 #[derive(Clone, Copy)]
 pub struct Reader<'a> {
@@ -27,7 +27,7 @@ pub fn moved<'a>(r: Reader<'a>, at: usize) -> Reader<'a>
 }
 
 // An operand by its form's number in the table of first bytes: 1 UB, 2 SB, 3 DB, 4 B, 5 W.
-fn fetch_coded(src: &[u8], at: usize, digit: u8) -> Operand
+fn fetch_coded(src: &[u8], at: usize, digit: u8) -> Result<Operand, Missing>
     ensures { fetched_of result ≡ fetched (form_at digit) src.now at }
 {
     if digit == 1 {
@@ -46,14 +46,14 @@ fn fetch_coded(src: &[u8], at: usize, digit: u8) -> Operand
 }
 
 // The same at the reader's place.
-pub fn next<'a>(r: Reader<'a>, digit: u8) -> Operand
+pub fn next<'a>(r: Reader<'a>, digit: u8) -> Result<Operand, Missing>
     ensures { fetched_of result ≡ fetched (form_at digit) r.entry.src.now r.entry.at }
 {
     fetch_coded(r.src, r.at, digit)
 }
 
 // The same with plain parameters, by a reader that is made and moved: so a caller needs none of its own.
-pub fn read_at(seg: &[u8], at: usize, digit: u8) -> Operand
+pub fn read_at(seg: &[u8], at: usize, digit: u8) -> Result<Operand, Missing>
     ensures { fetched_of result ≡ fetched (form_at digit) seg.now at }
 {
     next(moved(new(seg), at), digit)

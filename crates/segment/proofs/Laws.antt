@@ -122,7 +122,7 @@ head_good s h =
       room = ltb-true _ _ q.1;
     }
 
--- ---- the loop over the routines: with k of n judged, one turn
+-- ---- the loop over the routines: with those below k judged, one turn
 
 -- checks 6 to 8 of routine k, and none where it is not linked and not routine 1
 linked_or_first : (zero first : Bool) → (not zero || first) ≡ not (zero && not first)
@@ -143,15 +143,15 @@ low_passes k cs true false = refl
 low_passes k cs false first = refl
 
 module _ (s : List ℕ) where
-  routines_more : (n k : ℕ) → k < n → ruling (routines_from s (n - k) (k + 1)) ≡ followed_by (ruling (routine_checks s (k + 1))) (ruling (routines_from s (n - (k + 1)) (k + 1 + 1)))
+  routines_more : (n k : ℕ) → k ≤ n → ruling (routines_from s (n + 1 - k) k) ≡ followed_by (ruling (routine_checks s k)) (ruling (routines_from s (n + 1 - (k + 1)) (k + 1)))
   unfolding routines_from
-  routines_more n k l = let e : n - k ≡ suc (n - (k + 1)) = omega arith in rw e (ruling_append (routine_checks s (k + 1)) (routines_from s (n - (k + 1)) (k + 1 + 1)))
+  routines_more n k l = let e : n + 1 - k ≡ suc (n + 1 - (k + 1)) = omega arith in rw e (ruling_append (routine_checks s k) (routines_from s (n + 1 - (k + 1)) (k + 1)))
 
-  pub judge_stop : (n k : ℕ) → k < n → passes (routine_checks s (k + 1)) ≡ false → ruling (routines_from s (n - k) (k + 1)) ≡ ruling (routine_checks s (k + 1))
-  judge_stop n k l h = routines_more n k l ∙ stops (routine_checks s (k + 1)) _ h
+  pub judge_stop : (n k : ℕ) → k ≤ n → passes (routine_checks s k) ≡ false → ruling (routines_from s (n + 1 - k) k) ≡ ruling (routine_checks s k)
+  judge_stop n k l h = routines_more n k l ∙ stops (routine_checks s k) _ h
 
-  pub judge_step : (n k : ℕ) → k < n → passes (routine_checks s (k + 1)) ≡ true → ruling (routines_from s (n - k) (k + 1)) ≡ ruling (routines_from s (n - (k + 1)) (k + 1 + 1))
-  judge_step n k l h = routines_more n k l ∙ followed_by_lem _ _ (pass_all (routine_checks s (k + 1)) h)
+  pub judge_step : (n k : ℕ) → k ≤ n → passes (routine_checks s k) ≡ true → ruling (routines_from s (n + 1 - k) k) ≡ ruling (routines_from s (n + 1 - (k + 1)) (k + 1))
+  judge_step n k l h = routines_more n k l ∙ followed_by_lem _ _ (pass_all (routine_checks s k) h)
 
   -- the test of routine k, made of numbers in hand: the sex, W, D and the entry. An entry below 12 passes only if it is 0, of another routine than 1
   module _ {b : Bool} {w d : ℕ} (k : ℕ) {e : ℕ} (hb : b ≡ least s) (hw : w ≡ words s) (hd : d ≡ dict s) (he : e ≡ word_by b s (d + k)) where
@@ -166,9 +166,9 @@ module _ (s : List ℕ) where
     unfolding passes routine_checks linked entry datasize exitic word
     passes_low l = let low : leb 12 e ≡ false = lt-leb 12 e l in rw (← hb, ← hw, ← hd, ← he, low) (low_passes k _ (eqb e 0) (eqb k 1))
 
-  pub judge_done : (n k : ℕ) → n ≤ k → ruling (routines_from s (n - k) (k + 1)) ≡ passed
+  pub judge_done : (n k : ℕ) → n < k → ruling (routines_from s (n + 1 - k) k) ≡ passed
   unfolding ruling routines_from
-  judge_done n k l = let e : n - k ≡ 0 = omega arith in rw e
+  judge_done n k l = let e : n + 1 - k ≡ 0 = omega arith in rw e
 
 -- ---- what checks 6 to 8 tell
 

@@ -1,11 +1,11 @@
 -- The verdict on a segment: checks 1 to 8 as a list, in the order in which they come.
 -- Below: what each check asks (Head), and what a list of checks comes to (`basis`). Above: loading, turning (which appends checks 9 and 10)
 -- and soundness. Assumes nothing.
-use Rattle.std.specs.Prelude.{ℕ, zero, suc, ◌+◌, List, [], ◌∷◌, ◌++◌, ◌||◌, cond, eqb}
+use Rattle.std.specs.Prelude.{⊤, Result, Ok, Err, ℕ, zero, suc, ◌+◌, List, [], ◌∷◌, ◌++◌, ◌||◌, cond, eqb}
 use Rattle.basis.specs.Checks.{Check, check, Ruling, passed, refused, ruling}
 use Rattle.segment.specs.Head.{shape_ok, sex_ok, reloc_ok, pool_ok, dict_ok, entry_ok, data_ok, exit_ok, count, linked}
-use Rattle.segment.specs.declared.Verdict.{Verdict}
-use Rattle.segment.specs.declared.Verdict.TheVariants.{Accepted, Refused}
+use Rattle.segment.specs.declared.refusal.Refusal.{Refusal}
+use Rattle.segment.specs.Refusals.{number_of, place_of}
 
 -- "Checks 1 to 5 come first": "a place (the routine number for 6 to 8, else 0)"
 unfoldable pub head_checks : List ℕ → List Check
@@ -36,6 +36,6 @@ unfoldable pub judged : List ℕ → Ruling
 judged s = ruling (checks s)
 
 -- the paper's number and place of each case of the code's answer
-abbrev pub ruling_of : Verdict → Ruling
-ruling_of Accepted = passed
-ruling_of (Refused number place) = refused number place
+abbrev pub ruling_of : Result ⊤ Refusal → Ruling
+ruling_of (Ok u) = passed
+ruling_of (Err r) = refused (number_of r) (place_of r)

@@ -2,3 +2,4 @@
 pub mod Head
 pub mod Judge
 pub mod Small
+pub mod Refusals

@@ -1,4 +1,4 @@
-// Code segments: the numbers of the header and of the routines, and what an answer to a segment is. All is total, for any bytes.
+// Code segments: the numbers of the header and of the routines, and why one is refused. All is total, for any bytes.
 // Below: bytes and words. Above: the verdict of checks 1 to 8, turning a segment's byte sex, the machine, the bench, listings and causes.
 #![tactic(auto)]
 
@@ -6,6 +6,10 @@ ghost use Rattle.std.specs.Prelude.{◌≡◌, ◌+◌, cond, eqb};
 ghost use Rattle.segment.specs.Head.{least, datasize, head_of, routine_of, fresh_of};
 
 use operand::{byte_at, word_at};
+
+mod refusal;
+
+pub use refusal::Refusal;
 
 // The numbers of a segment's header: how many words, whether words are least byte first, the
 // dictionary, relocation and pool pointers, where the real pool starts, the real size, and how many routines.
@@ -60,20 +64,14 @@ impl Segment {
     }
 }
 
-// The numbers of a routine; start is the byte of its first instruction.
+// The numbers of a routine; start is the byte of its first instruction. Kept: 0 for a routine that is not linked, and no Option, since it is a
+// segment's own number, of which the contract of `routine_of` and the edits unlinked_at_one and unlinked_starts_at_two speak.
 #[derive(Clone, Copy)]
 pub struct Routine {
     pub entry: u16,
     pub datasize: u16,
     pub exitic: u16,
     pub start: u32,
-}
-
-// The answer to a segment: accepted, or refused with the paper's number and the place.
-#[derive(Clone, Copy)]
-pub enum Verdict {
-    Accepted,
-    Refused { number: u8, place: u16 },
 }
 
 fn is_least(seg: &[u8]) -> bool
@@ -95,7 +93,7 @@ fn reals_of(words: usize, pool: u16, first: u16) -> usize
     pool as usize + first as usize
 }
 
-// The header's numbers, set one after another in a fresh record.
+// The header's numbers, set one after another in a fresh record. Kept: `fresh` is public, and the edits fresh_most_first and fresh_one_word are of it.
 pub fn head(seg: &[u8]) -> Segment
     ensures { result ≡ head_of seg.now }
 {

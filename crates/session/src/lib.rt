@@ -47,8 +47,7 @@ fn kind_ok(code: &[u8], k: Kind) -> bool
     ensures { result ≡ kind_ok code.now k }
 {
     match k {
-        Kind::Ready => true,
-        Kind::Finished => true,
+        Kind::Ready | Kind::Finished => true,
         Kind::Faulted(f, p) => both(
             at_most(1, f as usize),
             both(
@@ -65,13 +64,14 @@ pub fn cpu_ok(code: &[u8], len: usize, c: Cpu) -> bool
 {
     let low = segment::floor(code) as usize;
     let head = segment::head(code);
-    let sp = c.regs.sp;
-    let m = c.regs.m;
-    let counter = c.regs.counter;
-    let routine = c.regs.routine;
-    let lowest = c.regs.lowest;
-    let k = c.kind;
-    let h = both(at_most(lowest, sp), kind_ok(code, k));
+    let Regs {
+        sp,
+        m,
+        counter,
+        routine,
+        lowest,
+    } = c.regs;
+    let h = both(at_most(lowest, sp), kind_ok(code, c.kind));
     let g = both(
         at_most(routine, head.count as usize),
         both(at_most(low, lowest), h),

@@ -1,5 +1,4 @@
--- Laws of a sound bench, and of the loops of its test.
+-- Laws of a sound bench, and of the lists of its test.
 pub mod Below
 pub mod Lists
-pub mod Loops
 pub mod Facts

@@ -3,9 +3,10 @@
 use mathlib.Core.Path.{◌≡◌, refl, sym, ap, ◌∙◌}
 use mathlib.Core.List.{List, [], ◌∷◌, map}
 use mathlib.Core.Bool.{Bool, true, false, ◌&&◌, false≢true}
-use Prim.Native.Nat.{ℕ, zero, suc, ◌<◌}
+use Prim.Native.Nat.{ℕ, zero, suc, ◌-◌, ◌≤◌, ◌<◌}
 use native.Mathlib.Omega.{arith}
-use lib.ListN.{length, length-map, get_or, set, get_or-eq_default}
+use lib.ListN.{length, length-map, get_or, set, take, drop, get_or-eq_default}
+use Rattle.std.proofs.lemmas.List.{take_all}
 use Rattle.basis.proofs.Bools.{and_fst, and_snd, and_both}
 pub use Rattle.pmachine.proofs.Rows.{either_way, decided}
 use Rattle.sound.specs.Below.{Cpu}
@@ -73,6 +74,12 @@ apart_at (x ∷ l) zero (suc j) d h o u = all_at (apart x) l j d (and_fst (all (
 apart_at (x ∷ l) (suc i) zero d h o u = absurd (omega arith)
 apart_at (x ∷ l) (suc i) (suc j) d h o u =
     apart_at l i j d (and_snd (all (apart x) l) (all_apart l) h) (omega arith) (omega arith)
+
+-- the first of a list against those that follow it
+pub apart_first : (l : List Session) (d : Session) → 1 ≤ length l
+    → all_apart l ≡ (all (apart (get_or l 0 d)) (take (length l - 1) (drop 1 l)) && all_apart (take (length l - 1) (drop 1 l)))
+apart_first [] d h = absurd (omega arith)
+apart_first (x ∷ l) d h = let e : take (length (x ∷ l) - 1) l ≡ l = take_all _ l (omega arith) in rw e
 
 -- a record that is not used is apart from all
 pub unused_from_all : (a : Session) (l : List Session) → a.used ≡ false → all (apart a) l ≡ true

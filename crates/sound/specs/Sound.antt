@@ -2,6 +2,7 @@
 -- Above: `sound_test`, which decides it, and the entries, which refuse with 11 where it fails. Below: specs/Bench, and the session's ranges in
 -- specs/Below.
 use Rattle.std.specs.Prelude.{◌≡◌, List, [], ◌∷◌, Bool, true, ◌&&◌, ◌||◌, not, ℕ, ◌+◌, leb, eqb, length}
+use Rattle.std.specs.List.{list_all}
 use Rattle.basis.specs.Bools.{every}
 use Rattle.basis.specs.Checks.{is_passed}
 use Rattle.sound.specs.Below.{judged, cpu_ok}
@@ -13,8 +14,7 @@ use Rattle.sound.specs.Bench.{code_of, slot_of, World}
 
 -- every element passes
 abbrev pub all : {A : Type 0} → (A → Bool) → List A → Bool
-all p [] = true
-all p (x ∷ xs) = p x && all p xs
+all p xs = list_all p xs
 
 -- "N at most 1,048,576"; "S at most 32,768 and at most N"
 unfoldable pub limits_ok : ℕ → ℕ → Bool

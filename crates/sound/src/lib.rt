@@ -10,7 +10,8 @@ use bounds::{at_most, both};
 use machine::Cpu;
 use session::no_cpu;
 
-// A part of the store: len bytes from start on.
+// A part of the store: len bytes from start on. Kept: `loaded` and `used` beside numbers, and no Option, since a caller lends any numbers there, and
+// the contracts of no_slot and no_session, with the edits no_slot_elsewhere, no_session_elsewhere and no_session_sees, say which an empty one has.
 #[derive(Clone, Copy)]
 pub struct Slot {
     pub loaded: bool,
@@ -41,23 +42,21 @@ impl Session {
     pub fn fresh(slot: usize, base: usize, len: usize, window: Window, cpu: Cpu) -> Self
         ensures { result ≡ fresh slot base len window cpu }
     {
-        let mut out = no_session();
-        out.used = true;
-        out.slot = slot;
-        out.base = base;
-        out.len = len;
-        out.window = window;
-        out.cpu = cpu;
-        out
+        Session {
+            used: true,
+            slot,
+            base,
+            len,
+            window,
+            cpu,
+        }
     }
 
     // The record at other registers: slot, region and window stay.
     pub fn at(self, cpu: Cpu) -> Self
         ensures { result ≡ at_cpu self cpu }
     {
-        let mut out = self;
-        out.cpu = cpu;
-        out
+        Session { cpu, ..self }
     }
 }
 

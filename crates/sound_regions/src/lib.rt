@@ -8,8 +8,8 @@ ghost use Rattle.sound.specs.Sound.{all, placed, apart, all_apart};
 use bounds::{at_most, both, either, ends_by};
 use sound::Session;
 
-fn is_placed(n: usize, s: usize, se: Session) -> bool
-    ensures { result ≡ placed n s se }
+fn is_placed(n: usize, s: usize, se: &Session) -> bool
+    ensures { result ≡ placed n s se.now }
 {
     if !se.used {
         return true;
@@ -19,22 +19,14 @@ fn is_placed(n: usize, s: usize, se: Session) -> bool
     both(at_most(s, se.base), region)
 }
 
-pub fn all_placed(n: usize, s: usize, sessions: [Session; 16]) -> bool
-    ensures { result ≡ all (placed n s) sessions }
+pub fn all_placed(n: usize, s: usize, sessions: &[Session]) -> bool
+    ensures { result ≡ all (placed n s) sessions.now }
 {
-    let mut i: usize = 0;
-    while i < 16 {
-        let se = sessions[i];
-        if !is_placed(n, s, se) {
-            return false;
-        }
-        i += 1;
-    }
-    true
+    sessions.iter().all(|se| is_placed(n, s, se))
 }
 
-fn are_apart(a: Session, b: Session) -> bool
-    ensures { result ≡ apart a b }
+fn are_apart(a: &Session, b: &Session) -> bool
+    ensures { result ≡ apart a.now b.now }
 {
     if !a.used {
         return true;
@@ -48,24 +40,23 @@ fn are_apart(a: Session, b: Session) -> bool
     )
 }
 
-// The loop inside stands here, and not in a function of its own, because sixteen records are too many to hand on for each session.
-pub fn all_apart(sessions: [Session; 16]) -> bool
-    ensures { result ≡ all_apart sessions }
+// A record that is not used is apart from all: none of them is looked at.
+fn is_apart(se: &Session, others: &[Session]) -> bool
+    ensures { result ≡ all (apart se.now) others.now }
 {
-    let mut i: usize = 0;
-    while i < 16 {
-        let se = sessions[i];
-        if se.used {
-            let mut j = i + 1;
-            while j < 16 {
-                let other = sessions[j];
-                if !are_apart(se, other) {
-                    return false;
-                }
-                j += 1;
-            }
+    !se.used || others.iter().all(|other| are_apart(se, other))
+}
+
+// Each session against all that follow it.
+pub fn all_apart(sessions: &[Session]) -> bool
+    ensures { result ≡ all_apart sessions.now }
+{
+    let mut left = sessions;
+    while let [se, others @ ..] = left {
+        if !is_apart(se, others) {
+            return false;
         }
-        i += 1;
+        left = others;
     }
     true
 }

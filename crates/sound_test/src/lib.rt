@@ -17,11 +17,9 @@ mod slots;
 pub fn is_sound(b: Bench, memory: &[u16], store: &[u8]) -> bool
     ensures { result ≡ sound_b b memory.now store.now }
 {
-    let slots = b.slots;
-    let records = b.sessions;
-    let kept = sessions::all_ok(store, slots, records);
-    let apart = both(all_apart(records), kept);
-    let placed = both(all_placed(b.n, b.s, records), apart);
-    let loaded = both(slots::all_ok(store, slots), placed);
+    let kept = sessions::all_ok(store, &b.slots, &b.sessions);
+    let apart = both(all_apart(&b.sessions), kept);
+    let placed = both(all_placed(b.n, b.s, &b.sessions), apart);
+    let loaded = both(slots::all_ok(store, &b.slots), placed);
     both(limits_ok(b.n, b.s), both(memory.len() == b.n, loaded))
 }

@@ -11,35 +11,28 @@ use session::cpu_ok;
 use sound::{Session, Slot};
 
 // Of an open session that runs slot sl: it is loaded, and length, registers and kind are in their ranges.
-fn session_fits(store: &[u8], sl: Slot, se: Session) -> bool
-    ensures { result ≡ every (sl.loaded ∷ leb 16 se.len ∷ leb se.len 32768 ∷ cpu_ok (code_of store.now sl) se.len se.cpu ∷ []) }
+fn session_fits(store: &[u8], sl: &Slot, se: &Session) -> bool
+    ensures { result ≡ every (sl.now.loaded ∷ leb 16 se.now.len ∷ leb se.now.len 32768 ∷ cpu_ok (code_of store.now sl.now) se.now.len se.now.cpu ∷ []) }
 {
-    let cpu = se.cpu;
-    let start = sl.start;
-    let count = sl.len;
-    let code = code_of(store, start, count);
-    let ranges = both(at_most(se.len, 32768), cpu_ok(code, se.len, cpu));
+    let code = code_of(store, sl.start, sl.len);
+    let ranges = both(at_most(se.len, 32768), cpu_ok(code, se.len, se.cpu));
     both(sl.loaded, both(at_most(16, se.len), ranges))
 }
 
-// The slot is looked up here, because sixteen slots are too many to hand on for each session.
-pub fn all_ok(store: &[u8], slots: [Slot; 16], sessions: [Session; 16]) -> bool
-    ensures { result ≡ all (session_ok store.now slots) sessions }
+fn session_ok(store: &[u8], slots: &[Slot; 16], se: &Session) -> bool
+    ensures { result ≡ session_ok store.now slots.now se.now }
 {
-    let mut i: usize = 0;
-    while i < 16 {
-        let se = sessions[i];
-        if se.used {
-            let at = se.slot;
-            if 15 < at {
-                return false;
-            }
-            let sl = slots[at];
-            if !session_fits(store, sl, se) {
-                return false;
-            }
-        }
-        i += 1;
+    if !se.used {
+        return true;
     }
-    true
+    let Some(sl) = slots.get(se.slot) else {
+        return false;
+    };
+    session_fits(store, sl, se)
+}
+
+pub fn all_ok(store: &[u8], slots: &[Slot; 16], sessions: &[Session]) -> bool
+    ensures { result ≡ all (session_ok store.now slots.now) sessions.now }
+{
+    sessions.iter().all(|se| session_ok(store, slots, se))
 }

@@ -6,28 +6,18 @@ ghost use Rattle.sound.specs.Sound.{all, slot_ok};
 use bounds::{both, code_of, ends_by};
 use sound::Slot;
 
-fn slot_ok(store: &[u8], sl: Slot) -> bool
-    ensures { result ≡ slot_ok store.now sl }
+fn slot_ok(store: &[u8], sl: &Slot) -> bool
+    ensures { result ≡ slot_ok store.now sl.now }
 {
     if !sl.loaded {
         return true;
     }
-    let start = sl.start;
-    let len = sl.len;
-    let inside = ends_by(start, len, store.len());
-    both(inside, checks::accepts(code_of(store, start, len)))
+    let inside = ends_by(sl.start, sl.len, store.len());
+    both(inside, checks::accepts(code_of(store, sl.start, sl.len)))
 }
 
-pub fn all_ok(store: &[u8], slots: [Slot; 16]) -> bool
-    ensures { result ≡ all (slot_ok store.now) slots }
+pub fn all_ok(store: &[u8], slots: &[Slot]) -> bool
+    ensures { result ≡ all (slot_ok store.now) slots.now }
 {
-    let mut i: usize = 0;
-    while i < 16 {
-        let sl = slots[i];
-        if !slot_ok(store, sl) {
-            return false;
-        }
-        i += 1;
-    }
-    true
+    slots.iter().all(|sl| slot_ok(store, sl))
 }

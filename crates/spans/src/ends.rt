@@ -4,14 +4,12 @@ ghost use Rattle.std.specs.Prelude.{◌≡◌};
 ghost use Rattle.spans.specs.Ends.{nearer, nearer_of, end_by, code_end};
 
 // The first byte of a word, where that lies from start up and below end; else end.
+#[tactic(auto, unfolding(crate::specs::Ends::nearer))]
 fn nearest(start: usize, end: usize, word: u32) -> usize
     ensures { result ≡ nearer start end word }
 {
-    let at = 2 * (word as usize);
-    if at < start {
-        return end;
-    }
-    if at < end { at } else { end }
+    let at = 2 * word as usize;
+    if start <= at && at < end { at } else { end }
 }
 
 // The words of routine k: its word of the dictionary and, if it is linked, EXITIC and DATASIZE.
@@ -29,6 +27,7 @@ fn nearest_of(seg: &[u8], start: usize, end: usize, k: u16) -> usize
 }
 
 // The pool's first word and the dictionary's. The pool ends the code too: what stands from there on are constants.
+#[tactic(auto, unfolding(crate::specs::Ends::end_by))]
 fn common_end(seg: &[u8], start: usize) -> usize
     ensures { result ≡ end_by seg.now start 0 }
 {
@@ -41,13 +40,9 @@ fn common_end(seg: &[u8], start: usize) -> usize
 pub fn code_end(seg: &[u8], start: usize) -> usize
     ensures { result ≡ code_end seg.now start }
 {
-    let h = segment::head(seg);
-    let n = h.count;
     let mut end = common_end(seg, start);
-    let mut k: u16 = 0;
-    while k < n {
-        k += 1;
-        end = nearest_of(seg, start, end, k);
+    for k in 0..segment::head(seg).count {
+        end = nearest_of(seg, start, end, k + 1);
     }
     end
 }

@@ -20,30 +20,31 @@ pub fn in_code(len: usize, t: usize) -> bool
 pub fn one_to(n: u16, k: u16) -> bool
     ensures { result ≡ inside 1 (n + 1) k }
 {
-    bounds::within(1, n as usize + 1, k as usize)
+    bounds::within(1, usize::from(n) + 1, usize::from(k))
 }
 
 // The byte where the line after an instruction begins, in a segment of so many bytes: after it, but for native code.
+#[tactic(auto, unfolding(crate::specs::Native::line_after))]
 pub fn line_after(len: usize, first: u8, x: u16, next: usize) -> usize
     ensures { result ≡ line_after len first x next }
 {
     match first {
         NAT => len,
-        NAT_INFO => passed(len, next, x as usize),
+        NAT_INFO => passed(len, next, usize::from(x)),
         _ => next,
     }
 }
 
 // So many bytes on, or the segment's end where it has not so many.
+#[tactic(auto, unfolding(crate::specs::Native::onward))]
 fn passed(len: usize, next: usize, x: usize) -> usize
     ensures { result ≡ onward len next x }
 {
-    if next < len {
-        if x < len - next {
-            return next + x;
-        }
+    if x < len.saturating_sub(next) {
+        next + x
+    } else {
+        len
     }
-    len
 }
 
 // The byte after a line. It always goes forward, so that a listing ends.

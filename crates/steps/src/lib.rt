@@ -10,7 +10,8 @@ ghost use Rattle.steps.specs.Memory.{Steady, Stood};
 
 use plan::{Facts, Planned, Regs};
 
-// The registers after a step; a fault and its place; or the end.
+// The registers after a step; a fault and its place; or the end. A fault is its number in the paper, as a session's record holds it: an enum
+// of the faults made each step dearer (see `plan::Planned::Bad`).
 #[derive(Clone, Copy)]
 pub enum Stepped {
     Went(Regs),

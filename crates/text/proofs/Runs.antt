@@ -1,41 +1,31 @@
 -- The laws of words: the steps of the two runs, and that the first word and the rest are what the runs cut off.
 -- Above it: the proofs of `words.rt`. Below it: the definitions. Assumes nothing.
-use Prim.Native.Nat.{ℕ, suc, ◌+◌, ◌-◌, ◌≤◌, ◌<◌}
+use Prim.Native.Nat.{ℕ, suc, ◌+◌, ◌-◌, ◌<◌}
 use native.Mathlib.Omega.{arith}
 use native.Mathlib.Nat.{le_refl}
-use native.Mathlib.Numerals.{add-one}
 use mathlib.Core.Path.{◌≡◌, refl, ap, ◌∙◌}
 use mathlib.Core.Bool.{Bool, true, false, not}
 use mathlib.Core.List.{List, [], ◌∷◌}
-use lib.ListN.{length, get_or, take, drop, length-drop, drop_of_length-le}
-use lib.Seq.{drop-cons, get_or-drop, take_all}
+use lib.ListN.{length, get_or, take, drop, length-drop}
+use lib.Seq.{get_or-drop, take_all}
 use Rattle.text.specs.Words.{blank_byte, grown, in_front, words, blank_run, ink_run}
 
 -- ---- a run of bytes that are blank (t is true), or that are not
 
-pub record Run (t : Bool) (R : List ℕ → ℕ) : Type 0 where
-  none : R [] ≡ 0
+record Run (t : Bool) (R : List ℕ → ℕ) : Type 0 where
   stop : (b : ℕ) (l : List ℕ) → blank_byte b ≡ not t → R (b ∷ l) ≡ 0
   go : (b : ℕ) (l : List ℕ) → blank_byte b ≡ t → R (b ∷ l) ≡ suc (R l)
 
-pub blanks : Run true blank_run
+one_more : (n : ℕ) → 1 + n ≡ suc n
+one_more n = omega arith
+
+blanks : Run true blank_run
 unfolding blank_run
-blanks = record { none = refl; stop = λ b l e. rw e; go = λ b l e. rw e }
+blanks = record { stop = λ b l e. rw e; go = λ b l e. rw e (one_more _) }
 
-pub ink : Run false ink_run
+ink : Run false ink_run
 unfolding ink_run
-ink = record { none = refl; stop = λ b l e. rw e; go = λ b l e. rw e }
-
--- where the run of a line is n, and at index i the run of what is left
-module _ {t : Bool} {R : List ℕ → ℕ} (r : Run t R) (s : List ℕ) (i n : ℕ) (e : n ≡ i + R (drop i s)) where
-  pub run_ends : length s ≤ i → i ≡ n
-  run_ends h = omega (arith, ap R (drop_of_length-le s h) ∙ r.none)
-
-  pub run_stops : i < length s → blank_byte (get_or s i 0) ≡ not t → i ≡ n
-  run_stops h b = omega (arith, ap R (drop-cons s i 0 h) ∙ r.stop _ _ b)
-
-  pub run_goes : i < length s → blank_byte (get_or s i 0) ≡ t → n ≡ (i + 1) + R (drop (i + 1) s)
-  run_goes h b = rw (add-one i) (omega (arith, ap R (drop-cons s i 0 h) ∙ r.go _ _ b))
+ink = record { stop = λ b l e. rw e; go = λ b l e. rw e (one_more _) }
 
 -- ---- the first word and the rest
 

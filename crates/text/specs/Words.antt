@@ -1,6 +1,7 @@
 -- What `words.rt` cites: a line's words are its maximal runs of bytes that are not blank, in order.
 -- Above it: the contracts of `words.rt`. Below it: lists. Assumes nothing.
-use Rattle.std.specs.Prelude.{ℕ, suc, Bool, cond, ◌||◌, List, [], ◌∷◌, eqb}
+use Rattle.std.specs.Prelude.{ℕ, Bool, cond, not, ◌||◌, List, [], ◌∷◌, eqb}
+use Rattle.std.specs.List.{prefix_len}
 
 -- a space, a tab or a carriage return
 unfoldable pub blank_byte : ℕ → Bool
@@ -23,9 +24,7 @@ words (b ∷ l) = cond (blank_byte b) (words l) (in_front b l (words l))
 
 -- how many blanks a line begins with, and how many other bytes
 unfoldable pub blank_run : List ℕ → ℕ
-blank_run [] = 0
-blank_run (b ∷ l) = cond (blank_byte b) (suc (blank_run l)) 0
+blank_run l = prefix_len blank_byte l
 
 unfoldable pub ink_run : List ℕ → ℕ
-ink_run [] = 0
-ink_run (b ∷ l) = cond (blank_byte b) 0 (suc (ink_run l))
+ink_run l = prefix_len (λ b. not (blank_byte b)) l

@@ -11,4 +11,4 @@ mod words;
 pub use pieces::{cut, line, piece};
 pub use shown::visible;
 pub use slices::{front, joined, same};
-pub use words::word;
+pub use words::{blank, word};

@@ -43,14 +43,7 @@ fn blanks(s: &[u8]) -> usize
     ensures value { result ≡ blank_run s.now }
     ensures upper_bound { result ≤ length s.now }
 {
-    let mut i = 0;
-    while i < s.len() {
-        if !blank(s[i]) {
-            break;
-        }
-        i += 1;
-    }
-    i
+    s.iter().take_while(|b| blank(**b)).count()
 }
 
 // How many other bytes it begins with.
@@ -58,25 +51,13 @@ fn ink(s: &[u8]) -> usize
     ensures value { result ≡ ink_run s.now }
     ensures upper_bound { result ≤ length s.now }
 {
-    let mut i = 0;
-    while i < s.len() {
-        if blank(s[i]) {
-            break;
-        }
-        i += 1;
-    }
-    i
+    s.iter().take_while(|b| !blank(**b)).count()
 }
 
 // A space, a tab, or the carriage return that some editors leave at the end of a line.
-fn blank(b: u8) -> bool
+#[tactic(auto, unfolding(crate::specs::Words::blank_byte))]
+pub fn blank(b: u8) -> bool
     ensures { result ≡ blank_byte b }
 {
-    if b == 32 {
-        return true;
-    }
-    if b == 9 {
-        return true;
-    }
-    b == 13
+    matches!(b, b' ' | b'\t' | b'\r')
 }

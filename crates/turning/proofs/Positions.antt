@@ -3,7 +3,6 @@
 -- Assumes nothing.
 use Prim.Native.Nat.{ℕ, zero, suc, ◌+◌, ◌-◌, ◌*◌, ◌/◌, ◌≤◌, ◌<◌}
 use native.Mathlib.Nat.{eq-or-lt_of_le}
-use native.Mathlib.Numerals.{add-one}
 use native.Mathlib.Omega.{arith}
 use mathlib.Core.Path.{◌≡◌, refl, sym, ◌∙◌}
 use mathlib.Core.Logic.{⊎_elim}
@@ -77,25 +76,28 @@ pub frames_start : (s out : List ℕ) → out ≡ swap_at (framed s 0) s out
 unfolding framed
 frames_start s out = sym (swap_none (framed s 0) s out (λ w. refl))
 
-pub frames_more : (s out : List ℕ) {t : List ℕ} (k : ℕ) {e : ℕ} → t ≡ swap_at (framed s k) s out → e ≡ entry s (k + 1) → 1 ≤ e
-    → swap_at (inside (e - 1) (e + 1)) s t ≡ swap_at (framed s (k + 1)) s out
+pub frames_more : (s out : List ℕ) {t : List ℕ} (k : ℕ) {e : ℕ} → 1 ≤ k → t ≡ swap_at (framed s (k - 1)) s out → e ≡ entry s k → 1 ≤ e
+    → swap_at (inside (e - 1) (e + 1)) s t ≡ swap_at (framed s k) s out
 unfolding framed
-frames_more s out k {e} h q l =
-    let some : 1 ≤ entry s (suc k) = omega (arith, rw (add-one k) at q) in
-    rw (h, add-one k)
+frames_more s out zero o h q l = absurd (omega arith)
+frames_more s out (suc k) {e} o h q l =
+    let below : suc k - 1 ≡ k = omega arith in
+    let some : 1 ≤ entry s (suc k) = omega arith in
+    rw (h, below)
     (swap_join (framed s k) (inside (e - 1) (e + 1)) s out
-    ∙ swap_same (λ w. framed s k w || inside (e - 1) (e + 1) w) (framed s (suc k)) s out (λ w. rw (frame_inside e w l, q, add-one k, linked_some s (suc k) some)))
+    ∙ swap_same (λ w. framed s k w || inside (e - 1) (e + 1) w) (framed s (suc k)) s out (λ w. rw (frame_inside e w l, q, linked_some s (suc k) some)))
 
 -- a routine that is not linked has no word positions
 pub unlinked_words : (s : List ℕ) (k w : ℕ) → entry s (suc k) ≡ 0 → framed s (suc k) w ≡ framed s k w
 unfolding framed
 unlinked_words s k w e = rw (linked_none s (suc k) e) (or-false (framed s k w))
 
-pub frames_same : (s out : List ℕ) {t : List ℕ} (k : ℕ) {e : ℕ} → t ≡ swap_at (framed s k) s out → e ≡ entry s (k + 1) → e ≡ 0
-    → t ≡ swap_at (framed s (k + 1)) s out
-frames_same s out k h q z =
-    let none = sym (rw (add-one k) at q) ∙ z in
-    h ∙ rw (add-one k) (swap_same (framed s k) (framed s (suc k)) s out (λ w. sym (unlinked_words s k w none)))
+pub frames_same : (s out : List ℕ) {t : List ℕ} (k : ℕ) {e : ℕ} → 1 ≤ k → t ≡ swap_at (framed s (k - 1)) s out → e ≡ entry s k → e ≡ 0
+    → t ≡ swap_at (framed s k) s out
+frames_same s out zero o h q z = absurd (omega arith)
+frames_same s out (suc k) o h q z =
+    let below : suc k - 1 ≡ k = omega arith in
+    h ∙ rw below (swap_same (framed s k) (framed s (suc k)) s out (λ w. sym (unlinked_words s k w (sym q ∙ z))))
 
 -- the words of a linked routine k are among those of the first n; and what holds of each linked routine's words holds of all of them
 pub framed_has : (s : List ℕ) (w n k : ℕ) → 1 ≤ k → k ≤ n → linked s k ≡ true → frame (entry s k) w ≡ true → framed s n w ≡ true
@@ -121,10 +123,10 @@ module _ (s : List ℕ) (ok : judged s ≡ passed) where
       let f = (all_good s ok).routines k l r some in
       omega arith
 
-  -- the same of a result e, for routine k + 1 of n
-  pub entry_fits : {n k e : ℕ} → n ≡ count s → k < n → e ≡ entry s (k + 1) → 1 ≤ e → 2 * (e + 1) ≤ length s
-  entry_fits {n} {k} {e} hn l he some =
-      let i = entry_in (k + 1) (omega arith) (omega arith) (linked_some s (k + 1) (omega arith)) in
+  -- the same of a result e, for routine k of n
+  pub entry_fits : {n k e : ℕ} → n ≡ count s → 1 ≤ k → k ≤ n → e ≡ entry s k → 1 ≤ e → 2 * (e + 1) ≤ length s
+  entry_fits {n} {k} {e} hn o l he some =
+      let i = entry_in k o (omega arith) (linked_some s k (omega arith)) in
       omega arith
 
   pub position_in : (w : ℕ) → position s w ≡ true → w < words s

@@ -3,7 +3,6 @@
 -- Assumes nothing.
 use Prim.Native.Nat.{ℕ, zero, suc, ◌+◌, ◌-◌, ◌*◌, ◌/◌, ◌%◌, ◌≤◌, ◌<◌}
 use native.Mathlib.Nat.{not-suc-le-zero, le_of_suc-le-suc, add-zero, add-suc, suc-add, eq-or-lt_of_le}
-use native.Mathlib.Numerals.{add-one}
 use native.Mathlib.Decide.{dec_le}
 use native.Mathlib.Omega.{arith}
 use mathlib.Core.Path.{◌≡◌, refl, sym, ap, ◌∙◌}
@@ -11,8 +10,8 @@ use mathlib.Core.Logic.{◌⊎◌, inl, inr, ⊎_elim}
 use mathlib.Core.List.{List, ◌++◌}
 use mathlib.Core.Bool.{Bool, true, false, ◌||◌, cond}
 use borrow.Author.Tests.{eq-eqb, ne_eqb, eqb-true, eqb-false}
-use lib.ListN.{length, get_or, set, drop, length-set, length-append, get_or-append}
-use lib.Seq.{paste, paste-suc, take_all, get_or-set_same, get_or-set_other, get_or-append-add, ext_get_or}
+use lib.ListN.{length, get_or, set, length-set, length-append, get_or-append}
+use lib.Seq.{get_or-set_same, get_or-set_other, get_or-append-add, ext_get_or}
 use lib.Dec.{eqb}
 use Rattle.operand.specs.Bytes.{byte_at}
 use Rattle.turning.specs.Turn.{other, list_of, swap_byte, swap_at}
@@ -32,16 +31,6 @@ get_or_list_of f i (suc n) (suc k) l = get_or_list_of f (suc i) n k (le_of_suc-l
 
 get_d_past : (xs ys : List ℕ) (i : ℕ) → length xs ≤ i → get_or (xs ++ ys) i 0 ≡ get_or ys (i - length xs) 0
 get_d_past xs ys i l = let e : length xs + (i - length xs) ≡ i = omega arith in rw e at (get_or-append-add xs ys (i - length xs) 0)
-
--- ---- copying, one byte more at each turn of the loop, and all of them
-
-pub copy_more : (s d t : List ℕ) (j : ℕ) → t ≡ paste d 0 s j → j < length s → length s ≤ length d → set t j (get_or s j 0) ≡ paste d 0 s (j + 1)
-copy_more s d t j h l r =
-    let e : j ≡ 0 + j = omega arith in
-    rw (add-one j, h) (ap (λ (k : ℕ). set (paste d 0 s j) k (get_or s j 0)) e ∙ paste-suc d 0 s j 0 (omega arith) l)
-
-pub copy_all : (s d : List ℕ) (n : ℕ) → n ≡ length s → paste d 0 s n ≡ s ++ drop (length s) d
-copy_all s d n e = let z : 0 + n ≡ length s = omega arith in rw (take_all n s (omega arith), z)
 
 -- ---- the other byte of a word
 
@@ -80,8 +69,7 @@ module _ (p : ℕ → Bool) (s out : List ℕ) where
   -- a list that holds these bytes
   is_swap : (l : List ℕ) → length l ≡ length out → ((i : ℕ) → i < length out → get_or l i 0 ≡ swap_byte p s out i) → l ≡ swap_at p s out
   is_swap l n h =
-      let m = length_swap in
-      ext_get_or 0 l (swap_at p s out) (n ∙ sym m) (λ (i : ℕ) (b : i < length l). h i (omega arith) ∙ sym (get_or_swap i (omega arith)))
+      ext_get_or 0 l (swap_at p s out) (n ∙ sym length_swap) (λ (i : ℕ) (b : i < length l). h i (omega arith) ∙ sym (get_or_swap i (omega arith)))
 
 -- rules that name the same words write the same
 pub swap_same : (p q : ℕ → Bool) (s out : List ℕ) → ((w : ℕ) → p w ≡ q w) → swap_at p s out ≡ swap_at q s out

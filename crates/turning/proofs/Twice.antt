@@ -88,7 +88,6 @@ module _ (s : List ℕ) (ok : judged s ≡ passed) where
   -- at a word position stands the other byte of the word
   moved_byte : (i : ℕ) → position s (i / 2) ≡ true → byte_at (turned s) i ≡ byte_at s (other i)
   moved_byte i h =
-      let g = good in
       let m = position_in s ok (i / 2) h in
       turned_at i (omega arith) ∙ swap_in (position s) s s i h
 
@@ -218,10 +217,9 @@ module _ (s : List ℕ) (ok : judged s ≡ passed) where
   turned_twice : turned (turned s) ≡ s
   unfolding turned
   turned_twice =
-      let n = length_turned in
       let m = length_swap (position s) (turned s) (turned s) in
       swap_same (position (turned s)) (position s) (turned s) (turned s) same_position
-      ∙ ext_get_or 0 (swap_at (position s) (turned s) (turned s)) s (m ∙ n)
+      ∙ ext_get_or 0 (swap_at (position s) (turned s) (turned s)) s (m ∙ length_turned)
       (λ (i : ℕ) (l : i < length (swap_at (position s) (turned s) (turned s))).
       get_or_swap (position s) (turned s) (turned s) i (omega arith) ∙ turned_back i (position s (i / 2)) refl)
 

@@ -5,23 +5,14 @@
 ghost use Rattle.std.specs.Prelude.{◌≡◌, ◌++◌, ◌+◌, ◌*◌, ◌≤◌, ◌<◌, eqb, length, drop};
 ghost use Rattle.basis.specs.Bools.{inside};
 ghost use Rattle.segment.specs.Head.{count};
-ghost use Rattle.basis.specs.Checks.{passed, refused};
+ghost use Rattle.basis.specs.Checks.{passed};
 ghost use Rattle.segment.specs.Judge.{judged, ruling_of};
 ghost use Rattle.turning.specs.Turn.{framed, swap_at, turned, turn_ruling, output_of};
 
-use segment::{Segment, Verdict};
+use segment::{Refusal, Segment};
 
-// Copies the segment to the first bytes of the output.
-fn copy(seg: &[u8], out: &mut [u8])
-    requires { length seg.now ≤ length out.old }
-    ensures { out.new ≡ seg.now ++ drop (length seg.now) out.old }
-{
-    let mut i = 0;
-    while i < seg.len() {
-        out[i] = seg[i];
-        i += 1;
-    }
-}
+// Kept: the segment and the output are two parameters throughout, a source and a destination as `copy_from_slice` has them; a struct of the two would
+// be built in one place and say no more.
 
 // Writes the two bytes of word w swapped. They come from the segment and never from the output, so that a word that
 // is written twice is swapped once.
@@ -39,10 +30,8 @@ fn swap_words(seg: &[u8], out: &mut [u8], first: u32, end: u32)
     requires { (first ≤ end) × (2 * end ≤ length seg.now) × (length seg.now ≤ length out.old) }
     ensures { out.new ≡ swap_at (inside first end) seg.now out.old }
 {
-    let mut w = first;
-    while w < end {
+    for w in first..end {
         swap_word(seg, out, w);
-        w += 1;
     }
 }
 
@@ -51,9 +40,7 @@ fn swap_frames(seg: &[u8], out: &mut [u8], n: u16)
     requires { (judged seg.now ≡ passed) × (length seg.now ≤ length out.old) × (n ≡ count seg.now) }
     ensures { out.new ≡ swap_at (framed seg.now (count seg.now)) seg.now out.old }
 {
-    let mut k: u16 = 0;
-    while k < n {
-        k += 1;
+    for k in 1..=n {
         let r = segment::routine_of(seg, k);
         let e = r.entry as u32;
         if e != 0 {
@@ -70,50 +57,34 @@ fn turn_words(seg: &[u8], out: &mut [u8])
     let h = segment::head(seg);
     let d = h.dict as u32;
     let n = h.count as u32;
-    copy(seg, out);
+    out[..seg.len()].copy_from_slice(seg);
     swap_words(seg, out, Segment::DICT, Segment::NAME);
     swap_words(seg, out, Segment::SEX, Segment::BODY as u32);
     swap_words(seg, out, d, d + n + 1);
     swap_frames(seg, out, h.count);
 }
 
-// A refusal with place 0.
-fn refuse(number: u8) -> Verdict
-    ensures { ruling_of result ≡ refused number 0 }
-{
-    Verdict::Refused { number, place: 0 }
-}
-
 // Checks 1 to 10, for an output of `room` bytes.
-fn judge_turn(seg: &[u8], room: usize) -> Verdict
+fn judge_turn(seg: &[u8], room: usize) -> Result<(), Refusal>
     ensures { ruling_of result ≡ turn_ruling seg.now room }
 {
-    let v = checks::judge(seg);
-    if let Verdict::Refused {
-        number: _,
-        place: _,
-    } = v
-    {
-        return v;
-    }
+    checks::judge(seg)?;
     let h = segment::head(seg);
     if h.pool != 0 {
-        return refuse(9);
+        return Err(Refusal::HasPool);
     }
     if room < seg.len() {
-        return refuse(10);
+        return Err(Refusal::ShortOutput);
     }
-    Verdict::Accepted
+    Ok(())
 }
 
 // The segment in the other byte sex, in the first bytes of out; where it is refused, out is unchanged.
-pub fn turn(seg: &[u8], out: &mut [u8]) -> Verdict
+pub fn turn(seg: &[u8], out: &mut [u8]) -> Result<(), Refusal>
     ensures answer { ruling_of result ≡ turn_ruling seg.now (length out.old) }
     ensures output { out.new ≡ output_of seg.now out.old }
 {
-    let v = judge_turn(seg, out.len());
-    if let Verdict::Accepted = v {
-        turn_words(seg, out);
-    }
-    v
+    judge_turn(seg, out.len())?;
+    turn_words(seg, out);
+    Ok(())
 }

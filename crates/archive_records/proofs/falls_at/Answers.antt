@@ -1,8 +1,6 @@
 -- `archive_records::falls_at` meets its contract: the loop has come to record r, and no record before it falls.
-use mathlib.Core.Path.{refl}
-use mathlib.Core.Bool.{true}
+use mathlib.Core.Path.{◌≡◌, refl, ◌∙◌}
 use native.Mathlib.Omega.{arith}
-use Prim.Native.Nat.{◌-◌}
 use Rattle.archive_records.specs.Records.{never_falls}
 use Rattle.archive_records.proofs.Order.{goes, falls, ends}
 use Rattle.archive_records.proofs.falls_at.Goals as goal
@@ -11,35 +9,24 @@ pub loop-r-init : goal.loop-r-init
 unfolding never_falls
 loop-r-init c = (omega arith, (omega arith, refl))
 
-pub farm_at-requires : goal.farm_at-requires
-farm_at-requires c = omega (arith, c.loop-r-test.true)
-
-pub overflow_sub-r : goal.overflow_sub-r
-overflow_sub-r c = c.loop-r.invariant.0
-
-pub farm_at-requires-in-loop-r : goal.farm_at-requires-in-loop-r
-farm_at-requires-in-loop-r c = omega (arith, c.loop-r-test.true)
-
 pub returns-then-farm_at : goal.returns-then-farm_at
 returns-then-farm_at c =
-    let at = c in
-    let inv = at.loop-r.invariant in
-    falls _ _ _ inv.0 inv.1.1 (omega (arith, at.loop-r-test.true))
+    let inv = c.loop-r.invariant in
+    falls _ _ _ inv.0 inv.1.1 (omega (arith, c.loop-r-test.true))
     (rw (c.farm_at.ensures, c.farm_at-in-loop-r.ensures) at c.if-farm_at.true)
-
-pub loop-r-smaller : goal.loop-r-smaller
-loop-r-smaller c = omega (arith, c.loop-r-test.true)
 
 pub loop-r-preserved : goal.loop-r-preserved
 loop-r-preserved c =
-    let at = c in
-    let inv = at.loop-r.invariant in (
+    let inv = c.loop-r.invariant in (
       omega arith,
       (
-        omega (arith, at.loop-r-test.true),
+        omega (arith, c.loop-r-test.true),
         goes _ 0 _ inv.0 inv.1.1 (rw (c.farm_at.ensures, c.farm_at-in-loop-r.ensures) at c.if-farm_at.false),
       ),
     )
 
 pub returns : goal.returns
-returns c = let inv = c.loop-r.invariant in ends _ _ _ inv.0 inv.1.1 (omega (arith, inv.1.0, c.loop-r-test.false))
+returns c =
+    let inv = c.loop-r.invariant in
+    let e : c.max.result ≡ c.loop-r.r = omega arith in
+    e ∙ ends _ _ _ inv.0 inv.1.1 (omega arith)

@@ -7,6 +7,3 @@ use Rattle.archive_records.proofs.falls_at.Given as goal
 
 abbrev pub invariant-loop-r : goal.invariant-loop-r
 invariant-loop-r l = (1 ≤ l.r) × ((l.r - 1 ≤ l.n - 1) × (never_falls l.words (l.r - 1) ≡ true))
-
-abbrev pub decreases-loop-r : goal.decreases-loop-r
-decreases-loop-r l = l.n - l.r

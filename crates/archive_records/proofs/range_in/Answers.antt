@@ -2,7 +2,7 @@
 use mathlib.Core.Path.{◌≡◌, refl, sym, ◌∙◌}
 use mathlib.Core.List.{List}
 use native.Mathlib.Omega.{arith}
-use Prim.Native.Nat.{ℕ, suc, ◌+◌, ◌-◌, ◌*◌, ◌≤◌}
+use Prim.Native.Nat.{ℕ, suc, ◌+◌, ◌*◌, ◌≤◌}
 use Rattle.archive_records.specs.Records.{records_in, farm_at, how_many, first_of, range_of}
 use Rattle.archive_records.proofs.Ranges.{within, other_many, other_first, own_many, own_first, later_first}
 use Rattle.archive_records.proofs.range_in.Goals as goal
@@ -38,12 +38,6 @@ module _ (a : List ℕ) (farm r first count x : ℕ) (f : first ≡ first_of a f
 pub loop-r-init : goal.loop-r-init
 unfolding how_many first_of
 loop-r-init c = ((omega arith, (omega arith, omega arith)), (refl, refl))
-
-pub farm_at-requires : goal.farm_at-requires
-farm_at-requires c = omega (arith, c.loop-r-test.true)
-
-pub loop-r-smaller : goal.loop-r-smaller
-loop-r-smaller c = omega (arith, c.loop-r-test.true)
 
 pub loop-r-preserved : goal.loop-r-preserved
 loop-r-preserved c =

@@ -3,22 +3,14 @@ use mathlib.Core.Path.{sym, ap, ◌∙◌}
 use Rattle.basis.specs.Checks.{followed_by}
 use Rattle.segment.specs.Judge.{ruling_of}
 use Rattle.segment.proofs.Laws.{judged_is}
+use Rattle.segment.proofs.Refusals.{exits}
 use Rattle.checks.proofs.judge.Goals as goal
 
-pub judge_routines-requires : goal.judge_routines-requires
-judge_routines-requires c = sym c.judge_head-v.ensures ∙ ap ruling_of c.in-Accepted.is
-
-pub returns-in-Accepted : goal.returns-in-Accepted
+pub returns-in_err-judge_head : goal.returns-in_err-judge_head
 unfolding followed_by
-returns-in-Accepted c =
-    let told = c in
-    let head = told in
-    c.judge_routines.ensures
-    ∙ sym (judged_is head.args.seg.now ∙ simp (sym head.judge_head-v.ensures ∙ ap ruling_of told.in-Accepted.is))
+returns-in_err-judge_head c =
+    ap ruling_of (exits _ c.from_residual.ensures.1) ∙ sym (judged_is c.args.seg.now ∙ simp (← c.in_err-judge_head.ensures))
 
-pub returns-in-Refused : goal.returns-in-Refused
+pub returns : goal.returns
 unfolding followed_by
-returns-in-Refused c =
-    let head = c in
-    let told = ap ruling_of c.in-Refused.is in
-    told ∙ sym (judged_is head.args.seg.now ∙ simp (sym head.judge_head-v.ensures ∙ told))
+returns c = c.judge_routines.ensures ∙ sym (judged_is c.args.seg.now ∙ simp (← c.in_ok-judge_head.ensures))

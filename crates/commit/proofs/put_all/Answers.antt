@@ -10,27 +10,16 @@ loop-left-init c =
     let a = c.args in
     (omega arith, refl, none_pushed _ a.seg.now a.region.now a.first a.n a.top)
 
-pub put-requires : goal.put-requires
-put-requires c =
-    let l = c.loop-left in
-    let start = c in
-    omega (arith, l.invariant.0, l.invariant.1, start.requires)
-
 pub loop-left-preserved : goal.loop-left-preserved
 loop-left-preserved c =
-    let turn = c in
-    let start = turn in
-    let a = start.args in
-    let l = turn.loop-left in
+    let a = c.args in
+    let l = c.loop-left in
     let t = c.put in (
       omega (arith, l.invariant.0),
       t.auto.region ∙ l.invariant.1,
       one_pushed _ a.seg.now a.region.now a.first a.n a.top l.left _ l.region _ c.loop-left-test.true
-          l.invariant.0 start.requires.0 c.word_at-v.ensures l.invariant.2 t.ensures,
+          l.invariant.0 c.requires.0 c.word_at-v.ensures l.invariant.2 t.ensures,
     )
-
-pub shape_of-region : goal.shape_of-region
-shape_of-region c = c.loop-left.invariant.1
 
 pub returns : goal.returns
 returns c =

@@ -8,6 +8,3 @@ use Rattle.commit.proofs.put_all.Given as goal
 
 abbrev pub invariant-loop-left : goal.invariant-loop-left
 invariant-loop-left l = (l.left ≤ l.n) × (length l.region ≡ length l.initial.region) × (l.region ≡ written l.initial.region (l.top - l.n) (on_top (words_from l.least l.seg (l.first + l.left) (l.n - l.left))))
-
-abbrev pub decreases-loop-left : goal.decreases-loop-left
-decreases-loop-left l = l.left

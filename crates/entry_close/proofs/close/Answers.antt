@@ -17,19 +17,19 @@ closed : (w x : World) (i : ℕ) (se none : Session) → x ≡ cleared i none se
     → done 0 x ≡ done 0 (cleared i no_session (session_at w i).base (session_at w i).len w)
 closed w x i se none e n s = rw (e, n, s)
 
-pub returns-in-Refused : goal.returns-in-Refused
+pub returns-in-Err : goal.returns-in-Err
 unfolding close_of
-returns-in-Refused c =
+returns-in-Err c =
     let w = world_of c.args.b c.args.memory.now in
     let o : length c.args.b.sessions ≡ 16 = search rules in
-    let g = session_guarded c.args.store.now w c.args.i _ o _ c.session_at-se.ensures c.guard-v.ensures in
-    refuses _ _ _ _ _ (g.refuses [] _ _ c.in-Refused.is) (c.refuse.ensures _)
+    let g = session_guarded c.args.store.now w c.args.i _ o _ c.session_at-se.ensures c.guard.ensures in
+    refuses _ _ _ _ _ (g.refuses [] _ c.in-Err.is) (c.refuse.ensures _)
 
 pub clear-out-requires : goal.clear-out-requires
 clear-out-requires c =
     let w = world_of c.args.b c.args.memory.now in
     let o : length c.args.b.sessions ≡ 16 = search rules in
-    let g = (session_guarded c.args.store.now w c.args.i _ o _ c.session_at-se.ensures c.guard-v.ensures).goes c.in_default.is in
+    let g = (session_guarded c.args.store.now w c.args.i _ o _ c.session_at-se.ensures c.guard.ensures).goes c.in_default.is in
     (omega (arith, g.low), omega (arith, g.session.inside))
 
 pub returns : goal.returns
@@ -37,5 +37,5 @@ unfolding close_of
 returns c =
     let w = world_of c.args.b c.args.memory.now in
     let o : length c.args.b.sessions ≡ 16 = search rules in
-    let g = session_guarded c.args.store.now w c.args.i _ o _ c.session_at-se.ensures c.guard-v.ensures in
+    let g = session_guarded c.args.store.now w c.args.i _ o _ c.session_at-se.ensures c.guard.ensures in
     accepts _ _ _ (g.goes c.in_default.is).passes (closed w _ _ _ _ c.clear-out.ensures c.no_session.ensures c.session_at-se.ensures)

@@ -6,9 +6,9 @@ use mathlib.Core.List.{List}
 use mathlib.Core.Path.{◌≡◌, sym, ap, ◌∙◌}
 use Prim.Native.Nat.{ℕ, ◌≤◌}
 use Rattle.basis.proofs.Bools.{and_fst}
-use Rattle.basis.specs.Checks.{passed, ruling}
-use Rattle.segment.specs.declared.Verdict.{Verdict}
-use Rattle.segment.specs.declared.Verdict.TheVariants.{Accepted}
+use Rattle.basis.specs.Checks.{ruling}
+use Rattle.std.specs.Prelude.{⊤, Result}
+use Rattle.segment.specs.declared.refusal.Refusal.{Refusal}
 use Rattle.segment.specs.Judge.{judged, ruling_of}
 use Rattle.sound.specs.declared.Bench.{Bench}
 use Rattle.sound.specs.Bench.{World, world_of, code_of}
@@ -21,13 +21,13 @@ use Rattle.entry_load.proofs.load.Goals as goal
 -- ---- where the guard answered, and where the bytes were judged
 
 module _ (store : List ℕ) (w : World) (slot : ℕ) where
-  told : {named : Bool} {v : Verdict} → ruling_of v ≡ ruling (begins store w named) → named ≡ free_slot w slot → Guarded store w (free_slot w slot) v (Begun store w (free_slot w slot))
+  told : {named : Bool} {v : Result ⊤ Refusal} → ruling_of v ≡ ruling (begins store w named) → named ≡ free_slot w slot → Guarded store w (free_slot w slot) v (Begun store w (free_slot w slot))
   told {named} {v} h e = guarded store w named (free_slot w slot) v h e
 
   low : Begun store w (free_slot w slot) → slot ≤ 15
   low g = leb-true slot 15 (and_fst (leb slot 15) _ g.named)
 
-  ruled : (start len : ℕ) (v : Verdict) {r : Bool} {code : List ℕ} → Begun store w (free_slot w slot)
+  ruled : (start len : ℕ) (v : Result ⊤ Refusal) {r : Bool} {code : List ℕ} → Begun store w (free_slot w slot)
       → r ≡ range_ok store start len
       → r ≡ true
       → code ≡ code_of store (loaded_slot start len)
@@ -38,38 +38,38 @@ module _ (store : List ℕ) (w : World) (slot : ℕ) where
 
 -- ---- what the code asks
 
-pub returns-in-Refused : goal.returns-in-Refused
+pub returns-in-Err : goal.returns-in-Err
 unfolding load_of
-returns-in-Refused c =
+returns-in-Err c =
     let w = world_of c.args.b c.args.memory.now in
-    let g = told c.args.store.now w c.args.slot c.guard-begun.ensures c.is_free.ensures in
-    refuses _ _ _ _ _ (g.refuses _ _ _ c.in-Refused.is) (c.refuse.ensures _)
+    let g = told c.args.store.now w c.args.slot c.guard.ensures c.is_free.ensures in
+    refuses _ _ _ _ _ (g.refuses _ _ c.in-Err.is) (c.refuse.ensures _)
 
 pub returns-then-not-range_ok : goal.returns-then-not-range_ok
 unfolding load_of
 returns-then-not-range_ok c =
     let w = world_of c.args.b c.args.memory.now in
-    let g = (told c.args.store.now w c.args.slot c.guard-begun.ensures c.is_free.ensures).goes c.in_default.is in
+    let g = (told c.args.store.now w c.args.slot c.guard.ensures c.is_free.ensures).goes c.in_default.is in
     refuses _ _ _ _ _ (passed_first _ _ _ g.passes (fails _ _ _ _ (sym c.range_ok.ensures ∙ c.if-not-range_ok.true)))
     (c.refuse-then-not-range_ok.ensures _)
 
-pub returns-in-Refused-v : goal.returns-in-Refused-v
+pub returns-in-Err-judge : goal.returns-in-Err-judge
 unfolding load_of
-returns-in-Refused-v c =
+returns-in-Err-judge c =
     let w = world_of c.args.b c.args.memory.now in
-    let g = (told c.args.store.now w c.args.slot c.guard-begun.ensures c.is_free.ensures).goes c.in_default.is in
-    let r = ruled c.args.store.now w c.args.slot c.args.start c.args.len _ g c.range_ok.ensures c.if-not-range_ok.false c.code_of.ensures c.judge-v.ensures in
-    refuses _ _ _ _ _ (r ∙ ap ruling_of c.in-Refused-v.is) (c.refuse-in-Refused-v.ensures _)
+    let g = (told c.args.store.now w c.args.slot c.guard.ensures c.is_free.ensures).goes c.in_default.is in
+    let r = ruled c.args.store.now w c.args.slot c.args.start c.args.len _ g c.range_ok.ensures c.if-not-range_ok.false c.code_of.ensures c.judge.ensures in
+    refuses _ _ _ _ _ (r ∙ ap ruling_of c.in-Err-judge.is) (c.refuse-in-Err-judge.ensures _)
 
-pub with_slot-out-requires : goal.with_slot-out-requires
-with_slot-out-requires c =
+pub with_slot-requires : goal.with_slot-requires
+with_slot-requires c =
     let w = world_of c.args.b c.args.memory.now in
-    low c.args.store.now w c.args.slot ((told c.args.store.now w c.args.slot c.guard-begun.ensures c.is_free.ensures).goes c.in_default.is)
+    low c.args.store.now w c.args.slot ((told c.args.store.now w c.args.slot c.guard.ensures c.is_free.ensures).goes c.in_default.is)
 
 pub returns : goal.returns
 unfolding load_of
 returns c =
     let w = world_of c.args.b c.args.memory.now in
-    let g = (told c.args.store.now w c.args.slot c.guard-begun.ensures c.is_free.ensures).goes c.in_default.is in
-    let r = ruled c.args.store.now w c.args.slot c.args.start c.args.len _ g c.range_ok.ensures c.if-not-range_ok.false c.code_of.ensures c.judge-v.ensures in
-    accepts _ _ _ (r ∙ ap ruling_of c.in_default-v.is) (ap (λ (b : Bench). done 0 (world_of b c.args.memory.now)) c.with_slot-out.ensures)
+    let g = (told c.args.store.now w c.args.slot c.guard.ensures c.is_free.ensures).goes c.in_default.is in
+    let r = ruled c.args.store.now w c.args.slot c.args.start c.args.len _ g c.range_ok.ensures c.if-not-range_ok.false c.code_of.ensures c.judge.ensures in
+    accepts _ _ _ (r ∙ ap ruling_of c.in_default-judge.is) (ap (λ (b : Bench). done 0 (world_of b c.args.memory.now)) c.with_slot.ensures)

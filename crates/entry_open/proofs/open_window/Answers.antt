@@ -6,7 +6,7 @@ use mathlib.Core.Bool.{Bool, true, ◌&&◌}
 use mathlib.Core.List.{List, ◌∷◌, ◌++◌}
 use mathlib.Core.Path.{◌≡◌, sym, ap, ◌∙◌}
 use native.Mathlib.Omega.{arith}
-use Prim.Native.Nat.{ℕ, ◌≤◌}
+use Prim.Native.Nat.{ℕ, ◌≤◌, ◌<◌}
 use Rattle.basis.specs.Checks.{Check, check, Ruling, ruling}
 use Rattle.sound.specs.declared.Session.{Session}
 use Rattle.sound.specs.declared.Slot.{Slot}
@@ -14,12 +14,12 @@ use Rattle.sound.specs.declared.Window.{Window}
 use Rattle.sound.specs.Below.{Cpu, start_of}
 use Rattle.sound.specs.Bench.{World, world_of, slot_at, code_of, fresh}
 use Rattle.sound.specs.Sound.{inside_shared}
-use Rattle.entry.specs.declared.Gap.TheVariants.{At}
+use Rattle.std.specs.Prelude.{Some}
 use Rattle.entry.specs.Answer.{done}
-use Rattle.entry.specs.Entries.{begins, loaded_at, len_ok, record_for, gap_for, found, place_in, cleared, opens, window_open_of}
+use Rattle.entry.specs.Entries.{begins, loaded_at, len_ok, unused, record_for, gap_for, found, place_in, cleared, opens, window_open_of}
 use Rattle.entry.proofs.Refusing.{none_left, passed_first, fails, holds, refuses, accepts}
 use Rattle.entry.proofs.Starts.{Begun, slot_guarded}
-use Rattle.entry_open.proofs.Lowest.{found_inside}
+use Rattle.entry_open.proofs.Lowest.{first_some, first_none, found_inside}
 use Rattle.entry_open.proofs.open_window.Goals as goal
 
 opened : (w : World) (slot len i a : ℕ) (v : Window) (code code' : List ℕ) (c : Cpu) (se : Session) (x : World)
@@ -28,7 +28,7 @@ opened : (w : World) (slot len i a : ℕ) (v : Window) (code code' : List ℕ) (
     → c ≡ start_of code len
     → code ≡ code'
     → i ≡ record_for w
-    → gap_for w len ≡ At a
+    → gap_for w len ≡ Some a
     → done i x ≡ opens slot len v (start_of code' len) (record_for w) (place_in (gap_for w len)) w
 opened w slot len i a v code code' c se x ex es ec eo ei eg = rw (ex, es, ec, eo, ei, eg)
 
@@ -52,80 +52,88 @@ module _ (store : List ℕ) (w : World) (slot : ℕ) where
 
 -- ---- what the code asks
 
-pub returns-in-Refused : goal.returns-in-Refused
+pub returns-in-Err : goal.returns-in-Err
 unfolding window_open_of
-returns-in-Refused c =
+returns-in-Err c =
     let w = world_of c.args.b c.args.memory.now in
     let o : length c.args.b.slots ≡ 16 = search rules in
-    let v = slot_guarded c.args.store.now w c.args.slot _ o _ c.slot_at-sl.ensures c.guard-v.ensures in
-    refuses _ _ _ _ _ (v.refuses _ _ _ c.in-Refused.is) (c.refuse.ensures _)
+    let v = slot_guarded c.args.store.now w c.args.slot _ o _ c.slot_at-sl.ensures c.guard.ensures in
+    refuses _ _ _ _ _ (v.refuses _ _ c.in-Err.is) (c.refuse.ensures _)
 
 pub returns-then-not-both : goal.returns-then-not-both
 unfolding window_open_of
 returns-then-not-both c =
     let w = world_of c.args.b c.args.memory.now in
     let o : length c.args.b.slots ≡ 16 = search rules in
-    let v = slot_guarded c.args.store.now w c.args.slot _ o _ c.slot_at-sl.ensures c.guard-v.ensures in
+    let v = slot_guarded c.args.store.now w c.args.slot _ o _ c.slot_at-sl.ensures c.guard.ensures in
     let g = v.goes c.in_default.is in
     let code = coded c.args.store.now w c.args.slot c.slot_at-sl.ensures c.code_of-code.ensures in
     let sizes = judged _ _ _ _ _ c.args.len c.args.b.s c.args.window c.both.ensures c.len_ok.ensures c.ends_by-inside.ensures code in
     refuses _ _ _ _ _ (passed_first _ _ _ g.passes (fails _ _ _ _ (sym sizes ∙ c.if-not-both.true)))
     (c.refuse-then-not-both.ensures _)
 
-pub returns-then-i-gt15 : goal.returns-then-i-gt15
+pub returns-in_default-first_unused : goal.returns-in_default-first_unused
 unfolding window_open_of
-returns-then-i-gt15 c =
+returns-in_default-first_unused c =
     let w = world_of c.args.b c.args.memory.now in
     let o : length c.args.b.slots ≡ 16 = search rules in
-    let v = slot_guarded c.args.store.now w c.args.slot _ o _ c.slot_at-sl.ensures c.guard-v.ensures in
+    let v = slot_guarded c.args.store.now w c.args.slot _ o _ c.slot_at-sl.ensures c.guard.ensures in
     let g = v.goes c.in_default.is in
     let code = coded c.args.store.now w c.args.slot c.slot_at-sl.ensures c.code_of-code.ensures in
     let sizes = judged _ _ _ _ _ c.args.len c.args.b.s c.args.window c.both.ensures c.len_ok.ensures c.ends_by-inside.ensures code in
     let past = past_13 c.args.store.now w c.args.slot c.args.len c.args.window g sizes c.if-not-both.false in
-    refuses _ _ _ _ _ (past _ _ (fails _ _ _ _ (lt-leb _ 15 (rw c.first_unused-i.ensures at c.if-i-gt15.true))))
-    (c.refuse-then-i-gt15.ensures _)
+    let sixteen : length c.args.b.sessions ≡ 16 = search rules in
+    let none : 15 < record_for w = omega (arith, first_none unused c.args.b.sessions (sym c.first_unused.ensures ∙ c.in_default-first_unused.is)) in
+    refuses _ _ _ _ _ (past _ _ (fails _ _ _ _ (lt-leb _ 15 none)))
+    (c.refuse-in_default-first_unused.ensures _)
 
-pub gap_for-gap-requires : goal.gap_for-gap-requires
-gap_for-gap-requires c =
+pub gap_for-requires : goal.gap_for-requires
+gap_for-requires c =
     let w = world_of c.args.b c.args.memory.now in
     let o : length c.args.b.slots ≡ 16 = search rules in
-    let v = slot_guarded c.args.store.now w c.args.slot _ o _ c.slot_at-sl.ensures c.guard-v.ensures in
+    let v = slot_guarded c.args.store.now w c.args.slot _ o _ c.slot_at-sl.ensures c.guard.ensures in
     let g = v.goes c.in_default.is in (g.limits.words, g.places)
 
-pub clear-out-requires : goal.clear-out-requires
-clear-out-requires c =
+pub clear-requires : goal.clear-requires
+clear-requires c =
     let w = world_of c.args.b c.args.memory.now in
     let o : length c.args.b.slots ≡ 16 = search rules in
-    let v = slot_guarded c.args.store.now w c.args.slot _ o _ c.slot_at-sl.ensures c.guard-v.ensures in
+    let v = slot_guarded c.args.store.now w c.args.slot _ o _ c.slot_at-sl.ensures c.guard.ensures in
     let g = v.goes c.in_default.is in
-    let f = found_inside _ _ _ _ _ (sym c.gap_for-gap.ensures ∙ c.in-At.is) in
-    (omega arith, omega (arith, f, g.long))
+    let f = found_inside _ _ _ _ _ (sym c.gap_for.ensures ∙ c.in-Some-gap_for.is) in
+    let sixteen : length c.args.b.sessions ≡ 16 = search rules in
+    let place = first_some unused c.args.b.sessions _ (sym c.first_unused.ensures ∙ c.in-Some.is) in
+    (omega (arith, place), omega (arith, f, g.long))
 
-pub returns-in-At : goal.returns-in-At
+pub returns : goal.returns
 unfolding window_open_of
-returns-in-At c =
+returns c =
     let w = world_of c.args.b c.args.memory.now in
     let o : length c.args.b.slots ≡ 16 = search rules in
-    let v = slot_guarded c.args.store.now w c.args.slot _ o _ c.slot_at-sl.ensures c.guard-v.ensures in
+    let v = slot_guarded c.args.store.now w c.args.slot _ o _ c.slot_at-sl.ensures c.guard.ensures in
     let g = v.goes c.in_default.is in
     let code = coded c.args.store.now w c.args.slot c.slot_at-sl.ensures c.code_of-code.ensures in
     let sizes = judged _ _ _ _ _ c.args.len c.args.b.s c.args.window c.both.ensures c.len_ok.ensures c.ends_by-inside.ensures code in
     let past = past_13 c.args.store.now w c.args.slot c.args.len c.args.window g sizes c.if-not-both.false in
-    let left : record_for w ≤ 15 = rw c.first_unused-i.ensures at c.if-i-gt15.false in
-    let gap = sym c.gap_for-gap.ensures ∙ c.in-At.is in
+    let sixteen : length c.args.b.sessions ≡ 16 = search rules in
+    let place = first_some unused c.args.b.sessions _ (sym c.first_unused.ensures ∙ c.in-Some.is) in
+    let left : record_for w ≤ 15 = omega (arith, place) in
+    let gap = sym c.gap_for.ensures ∙ c.in-Some-gap_for.is in
     accepts _ _ _ (past _ _ (holds _ _ _ _ _ (le-leb _ 15 left) (holds _ _ _ _ _ (ap found gap) none_left)))
-    (opened _ _ _ _ _ _ _ _ _ _ _ c.clear-out.ensures c.fresh-se.ensures c.start_cpu.ensures code c.first_unused-i.ensures gap)
+    (opened _ _ _ _ _ _ _ _ _ _ _ c.clear.ensures c.fresh-se.ensures c.start_cpu.ensures code place.0 gap)
 
-pub returns-in-Full : goal.returns-in-Full
+pub returns-in_default-gap_for : goal.returns-in_default-gap_for
 unfolding window_open_of
-returns-in-Full c =
+returns-in_default-gap_for c =
     let w = world_of c.args.b c.args.memory.now in
     let o : length c.args.b.slots ≡ 16 = search rules in
-    let v = slot_guarded c.args.store.now w c.args.slot _ o _ c.slot_at-sl.ensures c.guard-v.ensures in
+    let v = slot_guarded c.args.store.now w c.args.slot _ o _ c.slot_at-sl.ensures c.guard.ensures in
     let g = v.goes c.in_default.is in
     let code = coded c.args.store.now w c.args.slot c.slot_at-sl.ensures c.code_of-code.ensures in
     let sizes = judged _ _ _ _ _ c.args.len c.args.b.s c.args.window c.both.ensures c.len_ok.ensures c.ends_by-inside.ensures code in
     let past = past_13 c.args.store.now w c.args.slot c.args.len c.args.window g sizes c.if-not-both.false in
-    let left : record_for w ≤ 15 = rw c.first_unused-i.ensures at c.if-i-gt15.false in
-    let full = sym c.gap_for-gap.ensures ∙ c.in-Full.is in
-    refuses _ _ _ _ _ (past _ _ (holds _ _ _ _ _ (le-leb _ 15 left) (fails _ _ _ _ (ap found full)))) (c.refuse-in-Full.ensures _)
+    let sixteen : length c.args.b.sessions ≡ 16 = search rules in
+    let place = first_some unused c.args.b.sessions _ (sym c.first_unused.ensures ∙ c.in-Some.is) in
+    let left : record_for w ≤ 15 = omega (arith, place) in
+    let full = sym c.gap_for.ensures ∙ c.in_default-gap_for.is in
+    refuses _ _ _ _ _ (past _ _ (holds _ _ _ _ _ (le-leb _ 15 left) (fails _ _ _ _ (ap found full)))) (c.refuse-in_default-gap_for.ensures _)

@@ -4,7 +4,7 @@ use Rattle.judge.proofs.First.{past, there}
 use Rattle.judge.proofs.decode.Goals as goal
 
 pub returns-then-seg-at : goal.returns-then-seg-at
-returns-then-seg-at c = let start = c in sym (past start.args.seg.now start.args.at start.requires c.if-seg-at.true)
+returns-then-seg-at c = sym (past c.args.seg.now c.args.at c.requires c.if-seg-at.true)
 
 pub returns : goal.returns
-returns c = let start = c in sym (there start.args.seg.now start.args.at start.requires c.if-seg-at.false)
+returns c = sym (there c.args.seg.now c.args.at c.requires c.if-seg-at.false)

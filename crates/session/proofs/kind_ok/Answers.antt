@@ -1,5 +1,7 @@
 -- `session::kind_ok` tests what `kind_in_range` lists.
-use mathlib.Core.Path.{sym, ap}
+use mathlib.Core.Path.{◌≡◌, sym, ap}
+use mathlib.Core.Logic.{⊎_elim}
+use Rattle.machine.specs.declared.Kind.TheVariants.{Ready, Finished}
 use Rattle.basis.specs.Bools.{every}
 use Rattle.pmachine.specs.Sound.{kind_in_range}
 use Rattle.session.specs.Session.{kind_ok}
@@ -7,11 +9,8 @@ use Rattle.session.proofs.kind_ok.Goals as goal
 
 pub returns-in-Ready : goal.returns-in-Ready
 unfolding kind_ok kind_in_range every
-returns-in-Ready c = sym (ap (kind_ok c.args.code.now) c.in-Ready.is)
-
-pub returns-in-Finished : goal.returns-in-Finished
-unfolding kind_ok kind_in_range every
-returns-in-Finished c = sym (ap (kind_ok c.args.code.now) c.in-Finished.is)
+returns-in-Ready c =
+    ⊎_elim (λ (e : c.args.k ≡ Ready). sym (ap (kind_ok c.args.code.now) e)) (λ (e : c.args.k ≡ Finished). sym (ap (kind_ok c.args.code.now) e)) c.in-Ready.is
 
 pub returns-in-Faulted : goal.returns-in-Faulted
 unfolding kind_ok kind_in_range every

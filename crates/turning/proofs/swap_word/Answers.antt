@@ -1,11 +1,7 @@
 -- `turning::swap_word` meets its contract. Assumes nothing.
 use native.Mathlib.Omega.{arith}
-use lib.ListN.{length-set}
 use Rattle.turning.proofs.Swaps.{swap_word}
 use Rattle.turning.proofs.swap_word.Goals as goal
-
-pub bounds-out-at-2 : goal.bounds-out-at-2
-bounds-out-at-2 c = simp length-set (omega arith)
 
 pub returns : goal.returns
 returns c =

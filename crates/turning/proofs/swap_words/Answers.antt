@@ -1,6 +1,5 @@
 -- `turning::swap_words` meets its contract. Assumes nothing.
 use mathlib.Core.Path.{◌≡◌, refl, ◌∙◌}
-use Prim.Native.Nat.{◌-◌}
 use native.Mathlib.Omega.{arith}
 use Rattle.turning.proofs.Positions.{range_start, range_more}
 use Rattle.turning.proofs.swap_words.Goals as goal
@@ -10,22 +9,14 @@ loop-w-init c =
     let a = c.args in
     (omega arith, omega arith, refl, range_start a.seg.now a.out.now a.first)
 
-pub swap_word-requires : goal.swap_word-requires
-swap_word-requires c = (omega arith, omega arith)
-
 pub loop-w-preserved : goal.loop-w-preserved
 loop-w-preserved c =
-    let turn = c in
-    let a = turn.args in
-    let l = turn.loop-w in
+    let a = c.args in
+    let l = c.loop-w in
     let t = c.swap_word in
     (omega arith, omega arith, t.auto.out ∙ l.invariant.2, t.ensures ∙ range_more a.seg.now a.out.now a.first l.w (omega arith) l.invariant.3)
 
-pub shape_of-out : goal.shape_of-out
-shape_of-out c = c.loop-w.invariant.2
-
 pub returns : goal.returns
 returns c =
-    let a = c.args in
-    let e : c.loop-w.w ≡ a.end = omega arith in
+    let e : c.loop-w.w ≡ c.args.end = omega arith in
     rw e at c.loop-w.invariant.3

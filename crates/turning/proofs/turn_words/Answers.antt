@@ -8,40 +8,20 @@ use Rattle.turning.proofs.turn_words.Goals as goal
 
 pub swap_words-requires : goal.swap_words-requires
 swap_words-requires c =
-    let copied = c in
-    let start = copied in
-    let g = (all_good start.args.seg.now start.requires.0).header in
+    let g = (all_good c.args.seg.now c.requires.0).header in
     (omega arith, omega arith, omega arith)
 
 pub swap_words-requires-2 : goal.swap_words-requires-2
 swap_words-requires-2 c =
-    let copied = c in
-    let start = copied in
-    let g = (all_good start.args.seg.now start.requires.0).header in
+    let g = (all_good c.args.seg.now c.requires.0).header in
     (omega arith, omega arith, omega arith)
 
 pub swap_words-requires-3 : goal.swap_words-requires-3
 swap_words-requires-3 c =
-    let copied = c in
-    let head = copied in
-    let start = head in
-    let g = (all_good start.args.seg.now start.requires.0).header in
-    (omega arith, omega (arith, ap (λ (h : Segment). h.dict) head.head-h.ensures, ap (λ (h : Segment). h.count) head.head-h.ensures), omega arith)
-
-pub swap_frames-requires : goal.swap_frames-requires
-swap_frames-requires c =
-    let head = c in
-    let start = head in
-    (start.requires.0, omega arith, ap (λ (h : Segment). h.count) head.head-h.ensures)
+    let g = (all_good c.args.seg.now c.requires.0).header in
+    (omega arith, omega (arith, ap (λ (h : Segment). h.dict) c.head-h.ensures, ap (λ (h : Segment). h.count) c.head-h.ensures), omega arith)
 
 pub returns : goal.returns
 returns c =
-    let frames = c in
-    let dictionary = frames in
-    let sex = dictionary in
-    let pointers = sex in
-    let copied = pointers in
-    let head = copied in
-    let start = head in
-    all_written start.args.seg.now start.requires.0 _ (ap (λ (h : Segment). h.dict) head.head-h.ensures) (ap (λ (h : Segment). h.count) head.head-h.ensures)
-    copied.copy.ensures pointers.swap_words.ensures sex.swap_words-2.ensures dictionary.swap_words-3.ensures frames.swap_frames.ensures
+    all_written c.args.seg.now c.requires.0 _ (ap (λ (h : Segment). h.dict) c.head-h.ensures) (ap (λ (h : Segment). h.count) c.head-h.ensures)
+    (rw c.copy_from_slice.ensures.after) c.swap_words.ensures c.swap_words-2.ensures c.swap_words-3.ensures c.swap_frames.ensures

@@ -3,25 +3,12 @@ use Rattle.std.proofs.Common.{◌≡◌, ℕ, ◌*◌, ◌%◌, ap, ◌∙◌, a
 use Rattle.basis.proofs.Integer.{mul_is, digit}
 use Rattle.word.proofs.mul.Goals as goal
 
-pub loop-left-init : goal.loop-left-init
-loop-left-init c = omega arith
-
-pub overflow_cast-left : goal.overflow_cast-left
-overflow_cast-left c = omega arith
-
-pub overflow_mul-factor : goal.overflow_mul-factor
-overflow_mul-factor c = omega arith
-
-pub loop-left-smaller : goal.loop-left-smaller
-loop-left-smaller c = omega arith
-
 pub loop-left-preserved : goal.loop-left-preserved
 loop-left-preserved c =
     let l = c.loop-left in
-    let p = c.times in
-    let s = c.wrapping_add_u16-sum in
+    let p = c.times-sum in
     let moved : l.factor % 256 * 256 ≡ l.factor * 256 % 65536 = omega arith in
-    (search rules, rw s.ensures.value (digit 65536 256 l.sum l.factor l.left p.result (l.factor % 256 * 256) p.ensures moved ∙ l.invariant.1))
+    (search rules, digit 65536 256 l.sum l.factor l.left p.result (l.factor % 256 * 256) p.ensures moved ∙ l.invariant.1)
 
 pub returns : goal.returns
 returns c =

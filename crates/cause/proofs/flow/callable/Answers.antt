@@ -2,18 +2,12 @@
 use native.Mathlib.Omega.{arith}
 use mathlib.Core.Path.{◌≡◌, sym, ap, ◌∙◌}
 use mathlib.Core.Bool.{false, true, ◌&&◌}
-use borrow.Author.Tests.{not-true, not-false}
+use borrow.Author.Tests.{not-false}
 use lib.Dec.{leb}
 use Rattle.segment.specs.Head.{entry}
 use Rattle.segment.specs.declared.Routine.{Routine}
 use Rattle.segment.proofs.Laws.{linked_some, linked_none}
 use Rattle.cause.proofs.flow.callable.Goals as goal
-
-pub returns-then-is_outside : goal.returns-then-is_outside
-returns-then-is_outside c =
-    let a = c.args in
-    let out : (leb 1 a.k && leb a.k a.n.count) ≡ false = not-true _ (sym c.is_outside.ensures ∙ c.if-is_outside.true) in
-    rw out
 
 pub returns-then-r-eq0 : goal.returns-then-r-eq0
 returns-then-r-eq0 c =

@@ -1,10 +1,6 @@
--- `fields::fields_of` is safe and ends. The measure is what is left to go through. Assumes nothing.
-use Prim.Native.Nat.{◌-◌}
-use lib.ListN.{length}
+-- `fields::fields_of` ends. The measure is what is left to go through. Assumes nothing.
+use Rattle.std.proofs.Common.{length}
 use Rattle.pond_sheet.proofs.fields.fields_of.Given as goal
 
-abbrev pub invariant-loop-at : goal.invariant-loop-at
-invariant-loop-at l = Unit {0}
-
-abbrev pub decreases-loop-at : goal.decreases-loop-at
-decreases-loop-at l = length l.line - l.at
+abbrev pub decreases-loop-word : goal.decreases-loop-word
+decreases-loop-word l = length l.rest

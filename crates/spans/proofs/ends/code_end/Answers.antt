@@ -9,11 +9,11 @@ unfolding end_by
 more s start k r end h e = h ∙ rw (e, add-one k)
 
 pub loop-k-preserved : goal.loop-k-preserved
-loop-k-preserved c = (omega arith, more _ _ _ _ _ c.nearest_of-end.ensures c.loop-k.invariant.1)
+loop-k-preserved c = more _ _ _ _ _ c.nearest_of-end.ensures c.loop-k.invariant
 
 pub returns : goal.returns
 returns c =
     let a = c.args in
     let l = c.loop-k in
-    let e : l.k ≡ c.head-h.result.count = omega arith in
-    l.invariant.1 ∙ ap (end_by a.seg.now a.start) (e ∙ ap (λ (h : Segment). h.count) c.head-h.ensures)
+    let e : l.k ≡ c.head-k-end.result.count = omega arith in
+    l.invariant ∙ ap (end_by a.seg.now a.start) (e ∙ ap (λ (h : Segment). h.count) c.head-k-end.ensures)

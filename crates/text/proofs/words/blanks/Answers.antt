@@ -1,13 +1,15 @@
--- `words::blanks` is the run that the line begins with: a turn, and the two ends. Assumes nothing.
-use Rattle.std.proofs.Common.{rules, sym, ◌∙◌}
-use Rattle.text.proofs.Runs.{blanks, run_ends, run_stops, run_goes}
+-- `words::blanks` is the run that the line begins with: the length of what `take_while` takes. Assumes nothing.
+use Rattle.std.proofs.Common.{◌∙◌, rules, tests}
+use Rattle.std.proofs.lemmas.Iterator.{YieldsList-from_slice}
+use Rattle.std.proofs.lemmas.Iterator.Consumers.{count_from_yields_List}
+use Rattle.std.proofs.lemmas.Iterator.Search.{YieldsList-from_take_while}
+use Rattle.std.proofs.lemmas.List.Folds.{length-prefix_len}
+use Rattle.text.specs.Words.{blank_byte, blank_run}
 use Rattle.text.proofs.words.blanks.Goals as goal
 
-pub loop-i-preserved : goal.loop-i-preserved
-loop-i-preserved c = (search rules, run_goes blanks _ _ _ c.loop-i.invariant.1 c.loop-i-test.true (sym c.blank.ensures ∙ c.if-not-blank.false))
-
-pub returns-after-loop-i-clause-value : goal.returns-after-loop-i-clause-value
-returns-after-loop-i-clause-value c = run_ends blanks _ _ _ c.loop-i.invariant.1 c.loop-i-test.false
-
-pub returns-then-not-blank-clause-value : goal.returns-then-not-blank-clause-value
-returns-then-not-blank-clause-value c = run_stops blanks _ _ _ c.loop-i.invariant.1 c.loop-i-test.true (sym c.blank.ensures ∙ c.if-not-blank.true)
+pub returns-clause-value : goal.returns-clause-value
+unfolding blank_run
+returns-clause-value c =
+    count_from_yields_List c.take_while.result _ c.count.ensures.ran
+    (YieldsList-from_take_while _ blank_byte (YieldsList-from_slice c.args.s.now (cc)) c.take_while.ensures.closure c.take_while.ensures.done (λ x b q k. search (rules, tests)))
+    ∙ length-prefix_len blank_byte c.args.s.now
