@@ -35,8 +35,10 @@ pub fn accept(b: Bench, memory: &[u16], store: &[u8]) -> Result<(), Refusal>
 pub fn range(b: Bench, memory: &[u16], store: &[u8], farm: u16) -> Result<Window, Refusal>
     ensures { found_of result ≡ range_answer store.now farm (world_of b memory.now) }
 {
-    accept(b, memory, store)?;
-    Ok(range_in(&memory[..b.s], farm))
+    match accept(b, memory, store) {
+        Ok(()) => Ok(range_in(&memory[..b.s], farm)),
+        Err(refusal) => Err(refusal),
+    }
 }
 
 // A session of len words on a slot, which sees the farm's records. Refusals 11, 23, 12, 13, 14, 15.

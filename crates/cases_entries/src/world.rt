@@ -6,6 +6,9 @@ use cases_lines::setup::Part;
 use cases_requests::{Entry, Question, Seen};
 use sound::Bench;
 
+// The letters of the lines that have a few numbers; `w` and `b` have lists of them.
+const NUMBERED: &[u8] = b"mcznserJVQAGNLOWFTX";
+
 // Words or bytes, the first so many of which are lent.
 #[derive(Drop)]
 struct Lent<'a, T> {
@@ -58,24 +61,24 @@ impl<'a> World<'a> {
         }
     }
 
-    // Follows a line.
+    // Follows a line. A letter of no line is ignored, and the numbers behind it are not read: a remark may be long.
     pub(crate) fn line(&mut self, text: &[u8]) {
-        let Some(what) = letter(text) else {
-            return;
-        };
-        let v = numbers(text);
-        match what {
-            b'm' => self.memory.lend(v[0], low_word(v[1])),
-            b'c' => self.store.lend(v[0], low_byte(v[1])),
-            b'w' => setup::words(self.memory.lent(), text),
-            b'b' => setup::bytes(self.store.lent(), text),
-            _ => self.follow((what, v)),
+        match letter(text) {
+            Some(b'w') => setup::words(self.memory.lent(), text),
+            Some(b'b') => setup::bytes(self.store.lent(), text),
+            Some(what) if NUMBERED.contains(&what) => self.follow(what, numbers(text)),
+            _ => {}
         }
     }
 
-    // Any other line sets a part of the bench, or asks; a letter of no line is ignored.
-    fn follow(&mut self, line: (u8, [u64; NUMBERS])) {
-        if let Ok(part) = Part::try_from(line) {
+    // Lends, sets a part of the bench, or asks.
+    fn follow(&mut self, what: u8, v: [u64; NUMBERS]) {
+        let line = (what, v);
+        if what == b'm' {
+            self.memory.lend(v[0], low_word(v[1]));
+        } else if what == b'c' {
+            self.store.lend(v[0], low_byte(v[1]));
+        } else if let Ok(part) = Part::try_from(line) {
             setup::bench(&mut self.bench, part);
         } else if let Ok(asked) = Question::try_from(line) {
             cases_requests::look(&self.seen(), asked);

@@ -1,6 +1,6 @@
 // Rows of bytes: what the console keeps by number, the words of a command on its tape, and in its book the names of sessions and slots, the
 // files of the slots, and what the sessions were opened for. A row has as many bytes as the longest word.
-// Above it: the console's commands. Below it: nothing. Every function takes any rows and any numbers.
+// Above it: the console's commands. Below it: `text`. Every function takes any rows and any numbers.
 #![tactic(auto)]
 
 mod kept;

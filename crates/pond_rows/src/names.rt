@@ -1,7 +1,8 @@
 // The book, rows 0 to 15 for the names of the sessions, 16 to 31 for those of the slots, 32 to 47 for the slots' files, 48 to 63 for what the sessions
 // were opened for; and the tape, the verb and up to 7 words of a command. A name that is not given is a row without bytes.
-// Above it: the console's commands. Below it: rows.
+// Above it: the console's commands. Below it: rows, and `text` for whether two names are the same.
 use crate::kept::{Bytes, row, rows};
+use text::same;
 
 // No book has this row.
 const NONE: usize = 64;
@@ -55,5 +56,5 @@ pub fn file_of(book: &[Bytes], i: usize) -> &[u8] {
 
 // Which of the 16 rows from first on holds the name, counted from 0.
 pub fn find(book: &[Bytes], first: usize, name: &[u8]) -> Option<usize> {
-    (0..16).find(|&i| row(book, among(first, i)) == name)
+    (0..16).find(|&i| same(row(book, among(first, i)), name))
 }

@@ -1,5 +1,8 @@
 // The refusals of document 01: for each number one plain sentence that names the rule which was broken.
 // Above it: every command that can be refused. Below it: how the console speaks.
+ghost use Rattle.std.specs.Prelude.{◌≡◌, Bool, ◌&&◌, leb};
+ghost use Rattle.segment.specs.Refusals.{number_of};
+
 use pond_say::Outcome;
 use segment::Refusal;
 use text::line;
@@ -16,12 +19,22 @@ pub fn begun(refusal: Refusal) {
     pond_say::text(b"refused ");
     pond_say::number(refusal.number() as u64);
     pond_say::text(b" at ");
-    if let Refusal::Entry(_) | Refusal::Datasize(_) | Refusal::Exitic(_) = refusal {
+    if of_routine(refusal) {
         pond_say::text(b"routine ");
     }
     pond_say::number(refusal.place() as u64);
     pond_say::text(b": ");
     rule(refusal);
+}
+
+// The place of 6 to 8 is the routine's number.
+fn of_routine(refusal: Refusal) -> bool
+    ensures { result ≡ (leb 6 (number_of refusal) && leb (number_of refusal) 8) }
+{
+    match refusal {
+        Refusal::Entry(_) | Refusal::Datasize(_) | Refusal::Exitic(_) => true,
+        _ => false,
+    }
 }
 
 // Which line of the page has the sentence, from line 0 up.

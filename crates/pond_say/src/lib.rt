@@ -44,9 +44,10 @@ pub fn number(n: u64) {
     let _ = write!(out, "{n}");
 }
 
-// In hexadecimal with capital letters, as the papers print bytes, and zeros in front up to width digits.
+// In hexadecimal with capital letters, as the papers print bytes, and zeros in front up to width digits, or to 16.
 pub fn hex(n: u64, width: usize) {
     let mut out = Console;
+    let width = width.min(16);
     let _ = write!(out, "{n:0width$X}");
 }
 
@@ -78,7 +79,7 @@ pub fn signed(w: u16) {
     let _ = write!(out, "{n}");
 }
 
-// Two numbers with a dash between them, at the right end of a column.
+// Two numbers with a dash between them, at the right end of a column, behind at most 20 blanks.
 pub fn range_padded(from: u64, to: u64, width: usize) {
     padded(from, width.saturating_sub(1 + digits(to)));
     text(b"-");
@@ -100,8 +101,9 @@ pub fn blanks(n: usize) {
     text(front(b"                    ", n));
 }
 
-// A number at the right end of a column; it is wider where its digits are.
+// A number at the right end of a column, behind at most 20 blanks; it is wider where its digits are.
 pub fn padded(n: u64, width: usize) {
     let mut out = Console;
+    let width = width.min(digits(n) + 20);
     let _ = write!(out, "{n:>width$}");
 }

@@ -1,6 +1,6 @@
 // `help` and `help COMMAND`: one page, of which a line that begins with a blank belongs to the command above it and is shown with that command alone.
 // Above it: the console. Below it: how the console speaks.
-use text::word;
+use text::{same, word};
 
 // What a person sees first.
 pub fn welcome() {
@@ -92,6 +92,6 @@ fn belongs(line: &[u8], command: &[u8], mine: bool) -> bool {
     match line {
         [] => false,
         [b' ', ..] => mine && !command.is_empty(),
-        _ => command.is_empty() || word(line, 0) == command,
+        _ => command.is_empty() || same(word(line, 0), command),
     }
 }

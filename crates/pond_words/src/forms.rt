@@ -5,6 +5,7 @@ use pond_rows::{Bytes, row};
 use pond_say::{Console, Outcome};
 use std::fmt;
 use std::fmt::Write;
+use text::same;
 
 // A command's form. Those on a bench are the first, up to `Records`. What begins with `turn` is two commands, and `EitherTurn` stands for both.
 #[derive(Clone, Copy, Debug, PartialEq, Eq, PartialOrd)]
@@ -156,7 +157,7 @@ pub fn fits(form: Form, n: u8) -> bool {
 
 // Whether a word stands so many words before the last of a command, behind the verb.
 pub fn stands(c: Command, before: u8, wanted: &[u8]) -> bool {
-    before < c.n && row(c.tape, usize::from(c.n - before)) == wanted
+    before < c.n && same(row(c.tape, usize::from(c.n - before)), wanted)
 }
 
 // What a script goes on after behind these words of `keep`, if they can be followed.

@@ -2,7 +2,7 @@
 // Above: `sound_test`, the whole test. Below: `sound`, for the records, and the small tests of `bounds`.
 #![tactic(auto)]
 
-ghost use Rattle.std.specs.Prelude.{◌≡◌};
+ghost use Rattle.std.specs.Prelude.{◌≡◌, drop};
 ghost use Rattle.sound.specs.Sound.{all, placed, apart, all_apart};
 
 use bounds::{at_most, both, either, ends_by};
@@ -40,11 +40,21 @@ fn are_apart(a: &Session, b: &Session) -> bool
     )
 }
 
-// A record that is not used is apart from all: none of them is looked at.
-fn is_apart(se: &Session, others: &[Session]) -> bool
-    ensures { result ≡ all (apart se.now) others.now }
+// The sessions from one on, as far as there are.
+fn later(sessions: &[Session], from: usize) -> &[Session]
+    ensures { result.now ≡ drop from sessions.now }
 {
-    !se.used || others.iter().all(|other| are_apart(se, other))
+    &sessions[from.min(sessions.len())..]
+}
+
+// A session against those from one on. A record that is not used is apart from all: none of them is looked at.
+fn is_apart(se: &Session, sessions: &[Session], from: usize) -> bool
+    ensures { result ≡ all (apart se.now) (drop from sessions.now) }
+{
+    !se.used
+        || later(sessions, from)
+            .iter()
+            .all(|other| are_apart(se, other))
 }
 
 // Each session against all that follow it.
@@ -53,7 +63,7 @@ pub fn all_apart(sessions: &[Session]) -> bool
 {
     let mut left = sessions;
     while let [se, others @ ..] = left {
-        if !is_apart(se, others) {
+        if !is_apart(se, left, 1) {
             return false;
         }
         left = others;
