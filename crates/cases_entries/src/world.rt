@@ -6,7 +6,7 @@ use cases_lines::setup::Part;
 use cases_requests::{Entry, Question, Seen};
 use sound::Bench;
 
-// The letters of the lines that have a few numbers; `w` and `b` have lists of them.
+// The letters of the lines whose numbers are read at once; `w` and `b` have lists behind their first.
 const NUMBERED: &[u8] = b"mcznserJVQAGNLOWFTX";
 
 // Words or bytes, the first so many of which are lent.

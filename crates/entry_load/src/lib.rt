@@ -27,6 +27,13 @@ fn with_slot(b: Bench, i: usize, sl: Slot) -> Bench
     out
 }
 
+// What is told of a segment that is refused: the refusal as it is, with its number, and of 6 to 8 the routine's.
+fn as_it_is(fault: Refusal) -> Refusal
+    ensures { result ≡ fault }
+{
+    fault
+}
+
 // Slot `slot` with the len bytes of the store from start on. Refusals 11, 12, 17, then 1 to 8.
 pub fn load(b: Bench, memory: &[u16], store: &[u8], slot: usize, start: usize, len: usize) -> Out
     ensures { result_of result memory.now ≡ load_of store.now slot start len (world_of b memory.now) }
@@ -38,7 +45,7 @@ pub fn load(b: Bench, memory: &[u16], store: &[u8], slot: usize, start: usize, l
         return refuse(b, Refusal::Limits);
     }
     if let Err(fault) = checks::judge(code_of(store, start, len)) {
-        return refuse(b, fault);
+        return refuse(b, as_it_is(fault));
     }
     let sl = Slot {
         loaded: true,

@@ -47,7 +47,7 @@ fn written(rt: &HostRuntime, region: &[u16], book: &[Bytes], i: usize, file: &[u
     Outcome::Done
 }
 
-// All lines at the start of room, which has room for them; how many bytes they have. Formats take 2.2 times the time of a save that puts the digits by these.
+// All lines at the start of room, which has room for them; how many bytes they have. With formats a save took 2.2 times as long.
 fn lines(region: &[u16], room: &mut [u8]) -> usize {
     let mut at = put(room, 0, b"word,unsigned,signed,hex\n");
     for (i, w) in region.iter().enumerate().skip(1) {

@@ -7,7 +7,7 @@ use mathlib.Core.Path.{◌≡◌, sym, ap, ◌∙◌}
 use Prim.Native.Nat.{ℕ, ◌≤◌}
 use Rattle.basis.proofs.Bools.{and_fst}
 use Rattle.basis.specs.Checks.{ruling}
-use Rattle.std.specs.Prelude.{⊤, Result}
+use Rattle.std.specs.Prelude.{⊤, Result, Err}
 use Rattle.segment.specs.declared.refusal.Refusal.{Refusal}
 use Rattle.segment.specs.Judge.{judged, ruling_of}
 use Rattle.sound.specs.declared.Bench.{Bench}
@@ -59,7 +59,7 @@ returns-in-Err-judge c =
     let w = world_of c.args.b c.args.memory.now in
     let g = (told c.args.store.now w c.args.slot c.guard.ensures c.is_free.ensures).goes c.in_default.is in
     let r = ruled c.args.store.now w c.args.slot c.args.start c.args.len _ g c.range_ok.ensures c.if-not-range_ok.false c.code_of.ensures c.judge.ensures in
-    refuses _ _ _ _ _ (r ∙ ap ruling_of c.in-Err-judge.is) (c.refuse-in-Err-judge.ensures _)
+    refuses _ _ _ _ _ (r ∙ ap ruling_of c.in-Err-judge.is ∙ ap (λ (x : Refusal). ruling_of (Err x)) (sym c.as_it_is.ensures)) (c.refuse-in-Err-judge.ensures _)
 
 pub with_slot-requires : goal.with_slot-requires
 with_slot-requires c =
