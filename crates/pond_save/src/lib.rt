@@ -89,12 +89,14 @@ fn hex(w: u16) -> [u8; 5] {
     ]
 }
 
-// The bytes into room from index at on, as far as it goes; the index after them.
+// The bytes into room from index at on, as far as it goes; the index after them. They are few: one by one they take less time than a copy.
 fn put(room: &mut [u8], at: usize, bytes: &[u8]) -> usize {
-    let Some(rest) = room.get_mut(at..) else {
-        return at;
-    };
-    let n = rest.len().min(bytes.len());
-    rest[..n].copy_from_slice(&bytes[..n]);
-    at + n
+    let mut next = at;
+    for byte in bytes {
+        if let Some(place) = room.get_mut(next) {
+            *place = *byte;
+            next += 1;
+        }
+    }
+    next
 }
